@@ -1,4 +1,4 @@
--- What an answer of a text comes to.
+-- The result of explaining an answer to a text.
 use Rattle.std.specs.Prelude.{◌≡◌, ◌≢◌, ◌⊎◌, ℕ, Bool, true, false, ◌&&◌, ◌==◌, List, [], ◌++◌, length, Ok, Err}
 use Rattle.region_table.specs.Program.{ProgramParts}
 use Rattle.rv_assembler.specs.declared.fault.SourceFault.{SourceFault}
@@ -25,21 +25,21 @@ use Rattle.explained_answer.specs.declared.explaining.Explained.{Explained}
 use Rattle.explained_answer.specs.declared.explaining.Explained as explained
 use Rattle.explained_answer.specs.Lines.{AreAllLinesExplained, IsRefusedAt}
 
--- the program of the text, with the places of its parts in the text
+-- the program of the text, with the lines of its parts
 pub record IsLocated (text : List ℕ) (l : Located) : Type 0 where
   pub program : source text ≡ Ok l.program
   pub places : l.places ≡ text_places text
 
 -- ---- the listing of the text's program, and the document of a run of the text
 
--- the answer begins in another way than the listing; or than a document
+-- the answer's first line isn't the listing's; or isn't a document's
 abbrev pub IsNoListing : List ℕ → Located → List ℕ → Type 0
 IsNoListing text l answer = IsListingTaken text l answer [] [] taken.TheVariants.Other
 
 abbrev pub IsNoTrace : (text answer : List ℕ) → Type 0
 IsNoTrace text answer = IsTraceTaken text answer taken.TheVariants.Other
 
--- the answer is the listing, and explained; or it begins so, and its first other line is told
+-- the answer is the listing, and is explained; or it begins so, and its first line that differs is named
 abbrev pub IsListingAnswer : List ℕ → Located → List ℕ → Explained → Type 0
 IsListingAnswer text l answer (explained.TheVariants.Text out) = IsListingTaken text l answer [] out taken.TheVariants.Whole
 IsListingAnswer text l answer (explained.TheVariants.Refused number) = IsListingTaken text l answer [] [] (taken.TheVariants.Stops number)
@@ -50,7 +50,7 @@ pub record IsListingExplained (text answer : List ℕ) (e : Explained) : Type 0 
   pub is_located : IsLocated text located
   pub answer_is : IsListingAnswer text located answer e
 
--- the answer is the document of a run of the text, and repeated; or it begins so, and its first other line is told
+-- the answer is the document of a run of the text, and is repeated; or it begins so, and its first line that differs is named
 abbrev pub IsTraceAnswer : (text answer : List ℕ) → Explained → Type 0
 IsTraceAnswer text answer (explained.TheVariants.Text out) = IsTraceTaken text answer taken.TheVariants.Whole × (out ≡ answer)
 IsTraceAnswer text answer (explained.TheVariants.Refused number) = IsTraceTaken text answer (taken.TheVariants.Stops number)
@@ -65,7 +65,7 @@ pub record IsTraceExplained (text answer : List ℕ) (e : Explained) : Type 0 wh
 
 -- ---- the answer to a text that is refused
 
--- a line by which the words of the command, or the form of a document, are refused before any text is looked at
+-- a line by which command words, or the form of a document, are refused before any text is looked at
 abbrev pub is_before_text : AnswerLine → Bool
 is_before_text (line.TheVariants.Fixed fixed.TheVariants.Usage) = true
 is_before_text (line.TheVariants.Fixed fixed.TheVariants.TooLarge) = true
@@ -80,7 +80,7 @@ pub record IsBeforeText (answer : List ℕ) : Type 0 where
   pub before : is_before_text line ≡ true
   pub stands : Stands IsAnswerLine answer_line answer line []
 
--- in front of the answer stands another line, or something stands after it
+-- the answer begins with another line, or has something after this one
 pub record StartsElse (answer : List ℕ) : Type 0 where
   pub line : AnswerLine
   pub rest : List ℕ
@@ -90,7 +90,7 @@ pub record StartsElse (answer : List ℕ) : Type 0 where
 abbrev pub IsNotBeforeText : List ℕ → Type 0
 IsNotBeforeText answer = NoneStands IsAnswerLine answer_line answer ⊎ StartsElse answer
 
--- an answer that isn't the text's refusal: it is repeated if no text was looked at for it, and else its first line is told
+-- an answer that isn't the text's refusal: it is repeated if no text was looked at for it, otherwise its first line is named
 abbrev pub IsOtherAnswer : List ℕ → Explained → Type 0
 IsOtherAnswer answer (explained.TheVariants.Text out) = IsBeforeText answer × (out ≡ answer)
 IsOtherAnswer answer (explained.TheVariants.Refused number) = IsNotBeforeText answer × (number ≡ 1)
@@ -106,7 +106,7 @@ pub record IsFaultExplained (text answer : List ℕ) (e : Explained) : Type 0 wh
   pub is : source text ≡ Err fault
   pub answer_is : IsRefusalExplained (refusal_of (OfSource fault)) (refusal_sentences text fault) answer e
 
--- the text's program has this conflict, and none before it
+-- the text's program has this conflict, and no lesser one
 pub record IsConflictExplained (text answer : List ℕ) (e : Explained) : Type 0 where
   pub located : Located
   pub is_located : IsLocated text located
@@ -131,7 +131,7 @@ pub record IsRunExplained (text answer : List ℕ) (e : Explained) : Type 0 wher
   pub no_trace : IsNoTrace text answer
   pub answer_is : AreAllExplained text located answer e
 
--- an answer to a text, explained; or the number of its first line that is no line of an answer to this text
+-- an answer to a text is explained; or the number is given of its first line that can't be a line of an answer to this text
 abbrev pub IsExplained : (text answer : List ℕ) → Explained → Type 0
 IsExplained text answer e =
     IsFaultExplained text answer e

@@ -21,16 +21,16 @@ is_of_lock lock g = g.lock.0 == lock
 abbrev pub last_grant : List Grant → ℕ → Option Grant
 last_grant grants lock = find (is_of_lock lock) (reverse grants)
 
--- the core of a grant, where it is one in the phase
+-- the core of a grant, if the grant is in the phase
 abbrev pub core_if_in : ℕ → Option Grant → Option ℕ
 core_if_in phase (Some g) = if g.phase.0 == phase then Some g.core.0 else None
 core_if_in phase None = None
 
--- the core that holds a lock at the end of a phase: where another task waits for the lock, it is the core that was granted it last
+-- the core that holds a lock at the end of a phase, if another task waits for the lock: the core to which it was granted last
 abbrev pub holder_of : List Grant → ℕ → ℕ → Option ℕ
 holder_of grants phase lock = core_if_in phase (last_grant grants lock)
 
--- the core that holds the lock for which a task waits; None of a task that doesn't wait
+-- the core that holds the lock for which a task waits; None for a task that doesn't wait
 abbrev pub awaited_holder : List Grant → ℕ → EndShown → Option ℕ
 awaited_holder grants phase (shown.TheVariants.Waits lock) = holder_of grants phase lock.0
 awaited_holder grants phase _ = None

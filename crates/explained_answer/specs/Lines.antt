@@ -1,4 +1,4 @@
--- What is said after the lines of an answer, and which lines an answer of a program may have.
+-- What is said after each line of an answer, and which lines an answer of a program may have.
 use Rattle.std.specs.Prelude.{◌≡◌, ◌⊎◌, ℕ, ◌+◌, ◌<◌, Bool, true, false, ◌&&◌, ◌==◌, nat_lt, List, [], ◌++◌, codes, length, find, map, flat_map, Option, Some, None}
 use Rattle.std.specs.Fmt.{decimal}
 use Rattle.region_table.specs.Program.{ProgramParts, tasks_of}
@@ -61,8 +61,8 @@ unproven_at text task None = []
 abbrev pub unproven_text : List ℕ → Places → ℕ → ℕ → ℕ → List ℕ
 unproven_text text places phase core pc = unproven_at text (find (is_task_of phase core) places.tasks) (code_place_at places pc)
 
--- what is said after a line: of a task that didn't finish why that is, of an instruction where it stands, and else the names of words
--- and locks. `holder` is the core that holds the lock for which the line's task waits, where the answer tells that
+-- what is said after a line: for a task that didn't finish, why; for an instruction, where it stands; otherwise the names of
+-- words and locks. `holder` is the core that holds the lock for which the line's task waits, if the answer tells that
 abbrev pub sentences_behind : List ℕ → Located → Option ℕ → AnswerLine → List ℕ
 sentences_behind text l holder (line.TheVariants.Outcome o) = []
 sentences_behind text l holder (line.TheVariants.Task t) = ending_text text l holder t
@@ -96,7 +96,7 @@ abbrev pub count_is_of : Located → Count → ℕ → Bool
 count_is_of l count.TheVariants.Words number = number == length l.program.memory
 count_is_of l _ number = true
 
--- whether the program has so many phases, tasks and data words
+-- whether the program has these numbers of phases, tasks and data words
 abbrev pub is_size_of : ProgramParts → ℕ → ℕ → ℕ → Bool
 is_size_of p phases tasks words = phases == length p.phases && (length (tasks_of p.phases) == tasks && words == length p.memory)
 
@@ -115,23 +115,23 @@ pub record IsLineOf (l : Located) (x : AnswerLine) : Type 0 where
   pub fits : IsAnswerLine x
   pub of : fits_program l x ≡ true
 
--- at the start of some bytes stands a line, but none of this program's answers
+-- the bytes begin with a line of an answer, but not with one of this program's
 pub record StandsOther (l : Located) (bytes : List ℕ) : Type 0 where
   pub line : AnswerLine
   pub rest : List ℕ
   pub stands : Stands IsAnswerLine answer_line bytes line rest
   pub other : fits_program l line ≡ false
 
--- no line of an answer of this program stands at the start of some bytes
+-- the bytes begin with no line of an answer of this program
 abbrev pub NoLineOf : Located → List ℕ → Type 0
 NoLineOf l bytes = NoneStands IsAnswerLine answer_line bytes ⊎ StandsOther l bytes
 
--- some bytes are these lines of an answer of this program, and these bytes after them
+-- the bytes are these lines of an answer of this program, and then these bytes
 pub record AreLinesBefore (l : Located) (bytes : List ℕ) (lines : List AnswerLine) (behind : List ℕ) : Type 0 where
   pub are : All (IsLineOf l) lines
   pub parts : bytes ≡ flat_map answer_line lines ++ behind
 
--- the line of this number, from 1, is the first that is no line of an answer of this program
+-- the line of this number, from 1, is the first that can't be a line of an answer of this program
 pub record IsRefusedAt (l : Located) (bytes : List ℕ) (number : ℕ) : Type 0 where
   pub lines : List AnswerLine
   pub rest : List ℕ

@@ -23,12 +23,12 @@ use rv_assembler::SourceFault;
 use std::alloc::Global;
 use text_places::{Located, located_program};
 
-/// What an answer comes to.
+/// The result of explaining an answer.
 #[derive(Debug, Drop)]
 pub enum Explained {
     /// Its lines, each with what is said of it.
     Text(Sequence<u8>),
-    /// The line of this number, from 1, is the first that is no line of an answer to the text.
+    /// The line of this number, from 1, is the first that can't be a line of an answer to the text.
     Refused { line: usize },
 }
 
@@ -70,7 +70,7 @@ fn explained_checked(
     }
 }
 
-/// Explains an answer to a text with this program, where the answer begins in another way than the listing.
+/// Explains an answer to a text with this program; the answer's first line isn't the listing's.
 fn explained_unlisted(
     alloc: Global,
     text: &[u8],
@@ -118,14 +118,14 @@ fn explained_text(alloc: Global, text: &[u8], answer: &[u8]) -> Result<Explained
     }
 }
 
-/// Repeats an answer to a text line by line, and says after each line that speaks of a place of the text what that is.
+/// Repeats an answer to a text line by line. After each line that concerns a place in the text it says what that place is.
 ///
-/// The answer is what `denovo` printed for the text in any mode, or the line with which it refused the text. The document that the mode
-/// trace prints is only repeated. Of an answer that isn't the text's, the first line that can't be one of it is told. Lines that answers of a
-/// checked program may have are never refused.
+/// The answer must be what `denovo` printed for the text in any mode, or the line with which it refused the text. The document
+/// of the mode trace is only repeated. If the answer isn't one to this text, the first line is named that can't belong to one.
+/// Lines that an answer of a checked program may have are never refused.
 ///
 /// # Errors
-/// `Memory` where there is no room.
+/// `Memory` if there is no room.
 pub fn explain(alloc: Global, text: &[u8], answer: &[u8]) -> Result<Explained, Memory>
     ensures explained { IfOk result (IsExplained text.now answer.now) }
     ensures listing { IfOk result (λ e. (l : LocatedOf) → IsLocated text.now l → answer.now ≡ listing_of l.program → e ≡ TextOf (explained_listing text.now l)) }

@@ -38,7 +38,7 @@ pub(crate) fn last_grants(
     Ok(last)
 }
 
-/// The core of a grant, where it is one in the phase.
+/// The core of a grant, if the grant is in the phase.
 fn core_if_in(phase: u32, grant: Option<Grant>) -> Option<u32>
     ensures { result ≡ core_if_in phase grant }
 {

@@ -1,4 +1,4 @@
-//! An answer explained: each of its lines, and after each line that speaks of a place sentences on where that is in the text.
+//! An answer explained: each of its lines, followed by sentences on the place in the text that the line concerns.
 #![tactic(auto)]
 
 mod explaining;

@@ -23,7 +23,7 @@ pub(crate) struct ReadLine<'a> {
 #[derive(Drop)]
 pub(crate) enum ReadAnswer<'a> {
     Lines(Vec<ReadLine<'a>>),
-    /// The line of this number, from 1, is the first that is no line of an answer of the program.
+    /// The line of this number, from 1, is the first that can't be a line of an answer of the program.
     Refused { line: usize },
 }
 
@@ -40,7 +40,7 @@ fn has_named_lock(located: &Located, lock: u32) -> bool
     (lock as usize) < located.program.locks.len()
 }
 
-/// Whether some phases have so many tasks in all.
+/// Whether these phases have this many tasks in all.
 fn has_tasks(phases: &[Phase], tasks: usize) -> bool
     ensures { result ≡ (length (tasks_of phases.now) == tasks) }
 {
@@ -55,7 +55,7 @@ fn has_tasks(phases: &[Phase], tasks: usize) -> bool
     others == 0
 }
 
-/// Whether the program has so many phases, tasks and data words.
+/// Whether the program has these numbers of phases, tasks and data words.
 fn is_size_of(program: &Program, phases: u32, tasks: u32, words: u32) -> bool
     ensures { result ≡ is_size_of program.now phases tasks words }
 {
@@ -106,7 +106,7 @@ fn fits_program(located: &Located, line: AnswerLine) -> bool
     }
 }
 
-/// The line of an answer of this program that stands at the start of some bytes, and what follows it.
+/// Reads a line of an answer of this program at the start of some bytes. Gives it and the bytes after it.
 #[tactic(auto, using(crate::proofs::Steps::front_of, crate::proofs::Steps::no_longer))]
 fn line_of<'a>(located: &Located, bytes: &'a [u8]) -> Option<(ReadLine<'a>, &'a [u8])>
     ensures some { IfSome result (λ f. Stands (IsLineOf located.now) answer_line bytes.now f.0.line f.1.now) }

@@ -19,7 +19,7 @@ use rv_assembler::SourceFault;
 use std::alloc::Global;
 use text_places::Located;
 
-/// Whether the words of the command, or the form of a document, are refused by a line before any text is looked at.
+/// Whether the line refuses command words, or the form of a document, before any text is looked at.
 fn is_before_text(line: AnswerLine) -> bool
     ensures { result ≡ is_before_text line }
 {
@@ -35,7 +35,7 @@ fn is_before_text(line: AnswerLine) -> bool
     }
 }
 
-/// Whether an answer is one line, which comes before any text.
+/// Whether an answer is a single line that was printed before any text was looked at.
 fn comes_before_text(answer: &[u8]) -> bool
     ensures yes { IsTrue result → IsBeforeText answer.now }
     ensures no { IsFalse result → IsNotBeforeText answer.now }
@@ -46,7 +46,7 @@ fn comes_before_text(answer: &[u8]) -> bool
     }
 }
 
-/// Explains an answer that isn't the refusal of a text that is refused: it is repeated if it comes before any text.
+/// Explains an answer that isn't the refusal of a refused text: it is repeated if it was printed before any text was looked at.
 fn other_answer(alloc: Global, answer: &[u8]) -> Result<Explained, Memory>
     ensures { IfOk result (IsOtherAnswer answer.now) }
 {

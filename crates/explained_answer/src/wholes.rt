@@ -1,4 +1,4 @@
-//! The answers that are texts as a whole.
+//! The answers that are whole texts.
 ghost use Rattle.std.specs.Prelude.{◌≤◌, length, IfOk, MatchOption};
 ghost use Rattle.explained_answer.specs.Explained.{IsNoListing, IsNoTrace, IsListingAnswer, IsTraceAnswer};
 
@@ -8,7 +8,7 @@ use std::alloc::Global;
 use text_places::Located;
 use whole_answers::{Taken, take_listing, take_trace};
 
-/// Explains an answer that is the listing of the text's program, or begins as it does; None where it begins in another way.
+/// Explains an answer that is the listing of the text's program, or begins as it; None if its first line differs.
 pub(crate) fn explained_listing(
     alloc: Global,
     text: &[u8],
@@ -25,7 +25,7 @@ pub(crate) fn explained_listing(
     }
 }
 
-/// Repeats an answer that is the document of a run of the text, or begins as one does; None where it begins in another way.
+/// Repeats an answer that is the document of a run of the text, or begins as one; None if its first line differs.
 pub(crate) fn explained_trace(
     alloc: Global,
     text: &[u8],

@@ -3,7 +3,7 @@ use Rattle.std.specs.Prelude.{ℕ, ◌+◌, ◌*◌, List, ◌++◌, codes}
 use Rattle.std.specs.Fmt.{decimal}
 use Rattle.text_pieces.specs.Pieces.{space}
 
--- the middle of the column at a place, and of a line
+-- the middle of the column with an index, and of a line
 abbrev pub x_of : ℕ → ℕ
 x_of place = 300 + 132 * place
 
@@ -17,7 +17,7 @@ top = 104
 unfoldable pub attribute : List ℕ → ℕ → List ℕ
 attribute name number = codes " " ++ name ++ codes "='" ++ decimal number ++ codes "'"
 
--- all names of classes begin alike, so that they are no others of the page in which a picture stands
+-- all names of classes begin alike, so that they differ from those of the page that shows the picture
 unfoldable pub class_begin : List ℕ
 class_begin = codes " class='denovo-"
 

@@ -35,7 +35,7 @@ height chart = bottom chart + 18
 
 -- ---- the head
 
--- how the classes of elements look, in light and dark: each text has at least 4.5 times the contrast of its ground
+-- the style of the classes of elements, in light and dark: each text has a contrast of at least 4.5 to its background
 unfoldable pub style : List ℕ
 style = codes "<style>.denovo-ground{fill:#fff}.denovo-odd{fill:#edf2f7}.denovo-rule{stroke:#7d8b99}.denovo-lane{stroke:#b4bac0}\n.denovo-mail,.denovo-cut{stroke:#26598c;fill:none}.denovo-cut{stroke-dasharray:7 4}.denovo-event,.denovo-head{fill:#26598c}\n.denovo-path{stroke:#f93;stroke-width:7;stroke-opacity:.45;stroke-linejoin:round;fill:none}.denovo-ring{stroke:#b34700;stroke-width:2;fill:none}\n.denovo-text{fill:#1c2126;paint-order:stroke;stroke:#fff;stroke-width:4;stroke-linejoin:round}.denovo-left{text-anchor:end}\n.denovo-title{font-size:15px}.denovo-actor{font-weight:bold;text-anchor:middle}.denovo-number{fill:#4d565f}.denovo-change{fill:#832a00}\n.denovo-end{fill:#8c0d0d;font-weight:bold}\n@media (prefers-color-scheme:dark){.denovo-ground{fill:#14181d}.denovo-odd{fill:#1e2731}.denovo-rule{stroke:#7d8b99}.denovo-lane{stroke:#545d66}\n.denovo-mail,.denovo-cut{stroke:#86b9ec}.denovo-event,.denovo-head{fill:#86b9ec}.denovo-path{stroke-opacity:.4}.denovo-ring{stroke:#ffb454}\n.denovo-text{fill:#e6e9ec;stroke:#14181d}.denovo-number{fill:#aab4be}.denovo-change{fill:#ffb489}.denovo-end{fill:#ff9d9d}}</style>\n"
 
@@ -43,7 +43,7 @@ style = codes "<style>.denovo-ground{fill:#fff}.denovo-odd{fill:#edf2f7}.denovo-
 unfoldable pub legend : List ℕ
 legend = codes "<circle class='denovo-event' cx='14' cy='60' r='4'/><text class='denovo-text' x='26' y='64'>event</text>\n<circle class='denovo-ring' cx='84' cy='60' r='8'/><text class='denovo-text' x='98' y='64'>on the longest chain</text>\n<path class='denovo-mail' d='M254 60H282'/><path class='denovo-head' d='M290 60l-8 -4v8z'/><text class='denovo-text' x='296' y='64'>mail</text>\n<path class='denovo-cut' d='M342 60H370'/><path class='denovo-head' d='M378 60l-8 -4v8z'/><text class='denovo-text' x='384' y='64'>mail from before or to behind the range</text>\n<text class='denovo-text denovo-change' x='682' y='64'>word: before &#8594; after</text>\n"
 
--- what columns, rows and arrows are, for readers who can't see the picture
+-- what columns, rows and arrows mean, for readers who can't see the picture
 unfoldable pub meaning : List ℕ
 meaning = codes ". Each column is a core, a bank, or the keeper of the phases. Each row is an event of the run, in their order. An arrow leads from the event that sent a mail to the event that handles it."
 
@@ -60,7 +60,7 @@ view_box w h = view_box_begin ++ decimal w ++ space ++ decimal h ++ codes "'>\n"
 unfoldable pub sizes : Chart → List ℕ
 sizes chart = attribute (codes "width") (width chart) ++ attribute (codes "height") (height chart) ++ view_box (width chart) (height chart)
 
--- what a reader of the screen reads out
+-- what a screen reader reads out
 unfoldable pub title_element : Chart → List ℕ
 title_element chart = codes "<title>" ++ title_text chart ++ codes "</title>\n"
 
@@ -97,7 +97,7 @@ is_of_phase (Some before) phase = before.0 == phase.0
 abbrev pub phase_if_new : Chart → Option PhaseId → ChartRow → List ℕ
 phase_if_new chart before row = if is_of_phase before row.phase then [] else phase_begin chart row
 
--- the bands of rows, after one of this phase
+-- the bands of rows, after a row of this phase
 abbrev pub bands : Chart → Option PhaseId → List ChartRow → List ℕ
 bands chart before [] = []
 bands chart before (row ∷ rows) = (band chart row ++ phase_if_new chart before row) ++ bands chart (Some row.phase) rows
@@ -134,12 +134,12 @@ chain_path chart = chain_begin ++ flat_map (point chart) chart.rows ++ codes "'/
 
 -- ---- the arrows
 
--- the height at which a mail is sent: above all rows where its sending has none
+-- the height at which a mail is sent: above all rows if the event that sent it has none
 abbrev pub height_of : Option ℕ → ℕ
 height_of None = top
 height_of (Some line) = y_of line
 
--- a mail from before the range, and one to after it, have a broken line
+-- a mail that was sent before the range, and one that isn't handled in it, have a broken line
 abbrev pub mail_class : Option ℕ → List ℕ
 mail_class None = codes "cut"
 mail_class (Some line) = codes "mail"

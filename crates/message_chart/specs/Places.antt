@@ -14,11 +14,11 @@ shown_at (Some shown) = shown
 abbrev pub is_shown : List Bool → ℕ → Bool
 is_shown shown bank = shown_at (slice_get shown bank)
 
--- how many of the sixteen banks that there may be have one and a lower number
+-- how many of the sixteen possible banks have a column and a lower number
 abbrev pub shown_below : List Bool → ℕ → ℕ
 shown_below shown bank = count_by (λ (b : ℕ). nat_lt b bank && is_shown shown b) (range_with_len 0 16)
 
--- the place of an actor's column: the cores come first, then the banks that are shown, then the keeper
+-- the index of an actor's column: the cores come first, then the banks that are shown, then the keeper
 abbrev pub place_of : Chart → Actor → ℕ
 place_of chart (Core core) = core.0
 place_of chart (Bank bank) = chart.shape.cores + shown_below chart.shown bank.0

@@ -14,7 +14,8 @@ pub enum About {
     Phase(PhaseId),
 }
 
-/// Where a mail comes from: its sender, and the line of the event that sent it; None where that comes before the chart's first row.
+/// Where a mail comes from: its sender, and the line of the event that sent it; None if that event is before the chart's first
+/// row.
 #[derive(Clone, Copy, Debug, PartialEq, Eq)]
 pub struct Origin {
     pub sender: Actor,
@@ -39,7 +40,7 @@ pub struct ChartRow {
     pub lines: u32,
     /// Where the mail comes from that the event handles, if it handles one.
     pub mail: Option<Origin>,
-    /// What becomes of the words for which the actor has something else after the event.
+    /// The words for which the actor holds something else after the event, and what it holds.
     pub changes: Sequence<WordChange>,
     /// How the actor's task ends with the event, if it does.
     pub end: Option<End>,
@@ -60,7 +61,7 @@ pub struct LeavingMail {
     pub line: u32,
 }
 
-/// A task that waits for a lock as the run ends.
+/// A task that waits for a lock when the run ends.
 #[derive(Clone, Copy, Debug, PartialEq, Eq)]
 pub struct WaitingTask {
     pub core: CoreId,

@@ -1,7 +1,7 @@
-//! The message chart of a run, and how it is written as a picture: an SVG text.
+//! The message chart of a run, as data and as a picture: an SVG text.
 //!
-//! Such a chart has a column for each actor, a row for each event, in their order from above, and an arrow for each mail, from the
-//! row of the event that sent it to the row of the one that handles it.
+//! A chart has a column for each actor, and a row for each event, in order from top to bottom. An arrow for each mail leads
+//! from the row of the event that sent it to the row of the event that handles it.
 #![tactic(auto)]
 
 mod chart;

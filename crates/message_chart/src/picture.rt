@@ -29,12 +29,13 @@ fn push_chain_line(out: &mut Vec<u8>, chart: &Chart) -> Result<(), Memory>
     push(out, b"'/>\n")
 }
 
-/// The chart as a picture, the text of an SVG document: a title with the machine's size, a legend, bands for the phases, the actors'
-/// columns, a line through the chain's events and a ring about each, an arrow for each mail, and for each event its number, actor and
-/// what it is, how its task ends, and what becomes of the words that it changes. After the rows stand the mails that no event of the
-/// chart handles, and the tasks that wait for a lock.
+/// The chart as a picture, the text of an SVG document. It has a title with the machine's size, a legend, bands for the phases,
+/// the actors' columns, a line through the chain's events with a ring around each, and an arrow for each mail. Each event has
+/// its number, its actor and what it is, how its task ends, and how it changes words. After the rows come the mails that no
+/// event of the chart handles, and the tasks that wait for a lock.
 ///
-/// The names of words and locks, the instructions and their lines are those of the text that the chart's run is of.
+/// The names of words and locks, and the instructions with their lines, are those of the given text; it must be the text of the
+/// chart's run.
 ///
 /// # Errors
 /// `Memory` where there is no room for the picture.

@@ -1,6 +1,6 @@
 use dn_base::{CoreId, WordId};
 
-/// What an actor has for a data word.
+/// What an actor holds for a data word.
 #[derive(Clone, Copy, Debug, PartialEq, Eq)]
 pub enum WordState {
     /// Nothing.
@@ -21,7 +21,7 @@ pub enum WordState {
     At(CoreId),
 }
 
-/// A word for which an actor has something else after an event than before it.
+/// A word for which an actor holds something else after an event than before it.
 #[derive(Clone, Copy, Debug, PartialEq, Eq)]
 pub struct WordChange {
     pub word: WordId,

@@ -1,10 +1,10 @@
--- JSON, as the page's data are written: strings in ASCII, lists, and numbers.
+-- JSON as the page's data use it: strings in ASCII, lists, and numbers.
 use Rattle.std.specs.Prelude.{ℕ, ◌==◌, Bool, true, false, ◌&&◌, not, nat_le, List, [], ◌∷◌, ◌++◌, codes, flat_map, if◌then◌else◌}
 use Rattle.std.specs.Fmt.{decimal}
 use Rattle.text_pieces.specs.Pieces.{hex_at}
 
--- whether a byte stands for itself in a string: printable ASCII, but for the quote, the backslash, and `<`, with which a tag of the
--- page around the data could begin
+-- whether a byte stands for itself in a string: printable ASCII, except the quote, the backslash, and `<`, with which a tag of
+-- the surrounding page could begin
 abbrev pub is_unescaped : ℕ → Bool
 is_unescaped b = nat_le 32 b && (nat_le b 126 && (not (b == 34) && (not (b == 92) && not (b == 60))))
 
@@ -27,11 +27,11 @@ abbrev pub item_texts : {X : Type 0} → (X → List ℕ) → Bool → List X �
 item_texts write first [] = []
 item_texts write first (x ∷ xs) = gap first ++ (write x ++ item_texts write false xs)
 
--- a list, each item of which is written so
+-- a list, each item of which is written by `write`
 unfoldable pub list_text : {X : Type 0} → (X → List ℕ) → List X → List ℕ
 list_text write xs = codes "[" ++ (item_texts write true xs ++ codes "]")
 
--- numbers that stand after something in a list
+-- numbers that follow something in a list
 abbrev pub further : ℕ → List ℕ
 further n = codes "," ++ decimal n
 

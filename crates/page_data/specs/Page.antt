@@ -80,7 +80,7 @@ next_field S = codes ",\"next\":" ++ list_text decimal S.numbers
 unfoldable pub mails_field : State → List ℕ
 mails_field S = codes ",\"mails\":" ++ (list_text mail_item S.mails ++ codes "}")
 
--- what leads to a state from the machine's beginning, the number of each actor's next mail, and the mails in flight
+-- the changes that lead to a state from the machine's beginning, the number of each actor's next mail, and the mails in flight
 unfoldable pub start_part : State → List ℕ
 start_part S = changes_field S ++ (next_field S ++ mails_field S)
 

@@ -1,4 +1,4 @@
--- What the page is told of the machine and its program.
+-- What the page's data tell of the machine and its program.
 use Rattle.std.specs.Prelude.{ℕ, ◌+◌, ◌==◌, Bool, true, false, List, [], ◌∷◌, ◌++◌, codes, flat_map, length, slice_get, Option, Some, None, if◌then◌else◌}
 use Rattle.std.specs.Fmt.{decimal}
 use Rattle.src_text.specs.Laws.{ended}
@@ -12,7 +12,7 @@ use Rattle.registration_protocol.specs.Node.{Setting}
 use Rattle.rv_listing.specs.Instruction.{code_line}
 use Rattle.page_data.specs.Json.{gap, string_text, list_text, further_all}
 
--- how large the machine is, the fuel of a task, and how many data words there are
+-- the machine's size, the fuel, and the number of data words
 unfoldable pub size_text : Setting → List ℕ
 size_text C =
     codes ",\"cores\":" ++ (decimal C.shape.cores
@@ -26,7 +26,7 @@ size_text C =
 unfoldable pub pair_text : ℕ → ℕ → List ℕ
 pair_text a b = codes "[" ++ (decimal a ++ (further_all (b ∷ []) ++ codes "]"))
 
--- the first values of the words from one on that aren't 0
+-- the initial values that aren't 0 of the words from one on
 abbrev pub value_texts : Bool → ℕ → List ℕ → List ℕ
 value_texts first w [] = []
 value_texts first w (value ∷ values) =

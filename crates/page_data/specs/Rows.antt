@@ -1,4 +1,4 @@
--- What the page is told of changes, mails and events.
+-- What the page's data tell of changes, mails and events.
 use Rattle.std.specs.Prelude.{ℕ, zero, suc, ◌+◌, Bool, true, false, List, [], ◌∷◌, ◌++◌, codes, map, Option, Some, None}
 use Rattle.std.specs.Fmt.{decimal}
 use Rattle.dn_base.specs.declared.ids.CoreId.{CoreId}
@@ -47,7 +47,7 @@ abbrev pub bit_text : ℕ → Bool → List ℕ
 bit_text bit true = further_all (bit ∷ [])
 bit_text bit false = []
 
--- of so many bits of a signature from one on those that are set
+-- of `count` bits of a signature from one on, those that are set
 abbrev pub bit_texts : Signature → ℕ → ℕ → List ℕ
 bit_texts s bit zero = []
 bit_texts s bit (suc n) = bit_text bit (has_bit s bit) ++ bit_texts s (bit + 1) n
@@ -69,7 +69,7 @@ cause_fields (shown.Waits lock) = codes ",\"waits\"" ++ further_all (lock.0 ∷ 
 
 -- ---- changes
 
--- a change begins with its tag, and has what belongs to it after
+-- a change begins with its tag, which its numbers follow
 unfoldable pub tagged : List ℕ → List ℕ → List ℕ
 tagged name rest = codes "[\"" ++ (name ++ (codes "\"" ++ (rest ++ codes "]")))
 
@@ -97,7 +97,7 @@ abbrev pub home_item : WordId → BankWord → List ℕ
 home_item word (content.Home value) = tagged (codes "H") (further_all (word.0 ∷ value ∷ []))
 home_item word (content.Reg core) = tagged (codes "G") (further_all (word.0 ∷ core.0 ∷ []))
 
--- the holder of a lock; -1 where nobody holds it
+-- the holder of a lock; -1 if nobody holds it
 abbrev pub holder_field : Option CoreId → List ℕ
 holder_field None = codes ",-1"
 holder_field (Some core) = further_all (core.0 ∷ [])
@@ -149,7 +149,7 @@ message_fields (message.Arrived core bad) = further_all (core.0 ∷ flag_number 
 message_fields (message.Go phase) = further_all (phase.0 ∷ [])
 message_fields message.Halt = []
 
--- to whom a message goes, its kind, and what it says
+-- the receiver of a message, its kind, and what it says
 unfoldable pub outgoing_fields : Actor → Message → List ℕ
 outgoing_fields to m = decimal (actor_number to) ++ (further_all (kind_index (kind_of m) ∷ []) ++ message_fields m)
 
@@ -163,7 +163,7 @@ mail_item m =
 
 -- ---- events
 
--- the sender and the number of the mail that is handled; -1 where none is
+-- the sender and the number of the mail that is handled; -1 if there is none
 abbrev pub handled_text : Event → List ℕ
 handled_text (Handle id) = codes "[" ++ (decimal (actor_number id.sender) ++ (further_all (id.number ∷ []) ++ codes "]"))
 handled_text _ = codes "-1"

@@ -1,5 +1,5 @@
-//! The data of the page of a run: one JSON text, which a page that a browser shows reads. It has the program and its text, how the run
-//! ended, the state before the page's first event, and what each of its events changes and sends.
+//! The data of the page of a run: one JSON text, which the page reads in a browser. It has the program and its text, how the
+//! run ended, the state before the page's first event, and what each of its events changes and sends.
 #![tactic(auto)]
 
 mod changes;

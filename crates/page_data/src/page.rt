@@ -17,12 +17,12 @@ use run_timing::Timing;
 use rv_core::Ending;
 use std::alloc::Global;
 
-/// The most events of a page.
+/// The greatest number of events on a page.
 pub const MOST_ROWS: u32 = 20_000;
 
-/// What a page tells of its run beside the program and the events: a title, the program's text, how the run ended, how many events of
-/// each kind it has, its longest chain by these ticks, and which events the page has: the first of them, from 0, and how many there are at
-/// most.
+/// What a page tells of its run, besides the program and the events: a title, the program's text, how the run ended, how many
+/// events of each kind it has, its longest chain by these ticks, and which events the page has: the number of the first, from
+/// 0, and the greatest number of them.
 #[derive(Clone, Copy)]
 pub struct Page<'a> {
     pub name: &'a [u8],
@@ -105,18 +105,18 @@ fn text_of(
     Ok(out)
 }
 
-/// The data of the page of a run, as one JSON text in ASCII, in which no `<` stands: the program and its text, how the run ended, the
-/// state before the page's first event, and what each of its events changes in its actor's state and sends.
+/// The data of the page of a run, as one JSON text in ASCII without `<`: the program and its text, how the run ended, the state
+/// before the page's first event, and what each of its events changes in its actor's state and sends.
 ///
-/// The events are a run of the initial machine of the checked program, this shape and this fuel. The shape has the cores that the
-/// program needs, 1 to 16 banks, 1 to 256 sets and 1 to 16 ways, a task may retire `fuel` instructions, 1 to 32,768, there are at most
-/// 25,169,664 events, and the page has at most 20,000 of them.
+/// The events must be a run of the initial machine of the checked program, this shape and this fuel. The shape must have as
+/// many cores as the program needs, 1 to 16 banks, 1 to 256 sets and 1 to 16 ways. A task may retire `fuel` instructions, 1 to
+/// 32,768. There must be at most 25,169,664 events, and the page has at most 20,000 of them.
 ///
-/// An event before the page is only made, and one after it isn't looked at. A Go and a Grant on the page look at each place of one
-/// cache, and any other event at a few words, at each lock and at what it sends.
+/// An event before the page is only made, and one after it isn't looked at. A Go or a Grant on the page looks at each place of
+/// one cache, and any other event at a few words, at each lock, and at what it sends.
 ///
 /// # Errors
-/// `Memory` where there is no room for the machine, its mails or the text.
+/// `Memory` if there is no room for the machine, its mails or the text.
 pub fn page_text(
     alloc: Global,
     checked: Checked,

@@ -37,7 +37,7 @@ abbrev pub about_mail : Option Mail → About
 about_mail None = Nothing
 about_mail (Some m) = about_message m.message
 
--- an instruction is about its code word, of so many: word i stands at the address 0x1000 + 4i
+-- an instruction is about its code word, if its index is below `words`: word i is at the address 0x1000 + 4i
 abbrev pub about_code : ℕ → ℕ → About
 about_code words pc =
     if nat_lt pc 0x1000 || not (pc % 4 == 0) then Nothing else (if nat_lt ((pc - 0x1000) / 4) words then Code ((pc - 0x1000) / 4) else Nothing)
@@ -60,7 +60,7 @@ about_in S (Evict core word) = Word word
 about_in S (Arrive core) = Nothing
 about_in S (Handle id) = about_mail (removed id S.mails).0
 
--- a task ends with the instruction that needs it to
+-- a task ends with the instruction whose need is that it ends
 abbrev pub need_ends_by : Option Need → Option End
 need_ends_by (Some (need.TheVariants.End cause)) = Some cause
 need_ends_by _ = None

@@ -1,6 +1,6 @@
--- The words for which an event may change what its actor has: few of them, whatever the size of the memory.
+-- The words for which an event may change what its actor holds: few of them, whatever the size of the memory.
 --
--- That no other word changes is proved (proofs/Others.antt), and no definition of the chart rests on it.
+-- It is proved (proofs/Others.antt) that no other word changes. The definition of the chart doesn't rest on this.
 use Rattle.std.specs.Prelude.{◌≡◌, ℕ, ◌<◌, ◌==◌, Bool, true, false, List, Option, Some, None, slice_get}
 use Rattle.std.specs.List.{Contains}
 use Rattle.std.specs.List.Sorted.{IsStrictlyIncreasing}
@@ -34,7 +34,7 @@ by_node C (Some n) = by_need (need_now C n)
 abbrev pub affected_by_core : State → CoreId → Affected
 affected_by_core S core = by_node S.setting (slice_get S.nodes core.0)
 
--- the word that a message names; or, where copies may go at a Grant or a Go, each word that the core has an entry of
+-- the word that a message names; or at a Grant or a Go, where copies may be dropped, each word that the core has an entry of
 abbrev pub by_core_message : CoreId → Message → Affected
 by_core_message core (DataReply word value) = Word word
 by_core_message core (RegAck word) = Word word
@@ -72,13 +72,13 @@ is_affected S (Entries core) w = is_some (entry_at S core.0 w)
 
 -- ---- how they are gathered
 
--- what stands in a list of numbers stays there, all below `end` that pass a test come to it, and none from `end` on
+-- the list keeps its numbers; all numbers below `end` that pass a test are added, and none from `end` on
 pub record AreAdded (end : ℕ) (test : ℕ → Bool) (before after : List ℕ) : Type 0 where
   pub kept : (w : ℕ) → Contains before w → Contains after w
   pub added : (w : ℕ) → w < end → test w ≡ true → Contains after w
   pub below : ((w : ℕ) → Contains before w → w < end) → (w : ℕ) → Contains after w → w < end
 
--- numbers in their order, all of those below `end` that pass a test among them, and none from `end` on
+-- sorted numbers: all of those below `end` that pass a test, possibly others below `end`, and none from `end` on
 pub record AreGathered (end : ℕ) (test : ℕ → Bool) (words : List ℕ) : Type 0 where
   pub rise : IsStrictlyIncreasing words
   pub all : (w : ℕ) → w < end → test w ≡ true → Contains words w

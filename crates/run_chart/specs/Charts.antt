@@ -26,11 +26,11 @@ before range events = take range.first events
 abbrev pub inside : Range → List Event → List Event
 inside range events = take range.most (drop range.first events)
 
--- whether no event comes after the range
+-- whether no event follows the range
 abbrev pub reaches_end : Range → ℕ → Bool
 reaches_end range events = nat_le events (range.first + range.most)
 
--- what is drawn of these events after the machine to which so many others led; nothing where they lead to none
+-- the drawing of these events from a machine on to which `event` others led; nothing if they lead to none
 abbrev pub drawn_behind : List ℕ → ℕ → List Event → Option Made → Option Drawing
 drawn_behind chain event wanted None = None
 drawn_behind chain event wanted (Some m) = Some (with_rows chain (begun m event) wanted)
@@ -39,7 +39,7 @@ drawn_behind chain event wanted (Some m) = Some (with_rows chain (begun m event)
 abbrev pub drawn : Made → Range → List ℕ → List Event → Option Drawing
 drawn m range chain events = drawn_behind chain (length (before range events)) (inside range events) (led_to m (before range events))
 
--- the tasks that wait for a lock as the run ends, where the chart reaches its end
+-- the tasks that wait for a lock when the run ends, if the chart reaches its end
 abbrev pub waiting_at : Bool → ℕ → State → List WaitingTask
 waiting_at true line S = waiting_from line S.nodes
 waiting_at false line S = []
@@ -59,7 +59,7 @@ chart_by frame rows leaving tasks line =
       lines = line + length leaving + length tasks;
     }
 
--- the chart that a drawing is: after its rows stand the mails that leave it, and then the tasks that wait
+-- the chart of a drawing: after its rows come the mails that leave it, and then the tasks that wait
 abbrev pub leaving_in : Drawing → List LeavingMail
 leaving_in d = leaving_from d.line d.sent d.machine.state.mails
 
@@ -82,7 +82,7 @@ pub record IsChartOf (P : ProgramParts) (shape : Shape) (fuel : ℕ) (events : L
   pub setting_is : IsSettingOf P shape fuel setting
   pub is : chart ≡ chart_of setting events range chain columns
 
--- a drawing whose mails are noted, and whose lines are so few that those of mails and tasks can stand after them
+-- a drawing whose mails are noted, and that has few enough lines to add those of mails and tasks
 pub record IsFinishable (d : Drawing) : Type 0 where
   pub sent : AreNotedFor d.sent d.machine.state.mails
   pub made : d.machine.made ≤ 25173760

@@ -21,7 +21,7 @@ use Rattle.run_chart.specs.About.{about_in, ends_by}
 use Rattle.run_chart.specs.Affected.{affected_by, is_affected, AreGathered}
 use Rattle.run_chart.specs.Words.{changes_in, changes_among, held_words, word_state}
 
--- the machine after one event more
+-- the machine after one more event
 abbrev pub moved : Made → Event → Made
 moved m e = record { state = next m.state e; made = m.made + 1 }
 
@@ -33,7 +33,7 @@ the_actor (Some a) = a
 abbrev pub event_maker : State → Event → Actor
 event_maker S e = the_actor (actor_in S e)
 
--- how many lines a row has: one for its event, one where a task ends, and one for each change
+-- how many lines a row has: one for its event, one if a task ends, and one for each change
 abbrev pub row_lines : Option End → List WordChange → ℕ
 row_lines end changes = 1 + end_lines end + length changes
 
@@ -57,7 +57,7 @@ row_by m sent e event line on_chain =
 abbrev pub row_of : List ℕ → Drawing → Event → ChartRow
 row_of chain d e = row_by d.machine d.sent e d.event d.line (is_on_chain chain d.event)
 
--- the drawing with the row of one event more
+-- the drawing with the row of one more event
 abbrev pub with_row : List ℕ → Drawing → Event → Drawing
 with_row chain d e =
     record {
@@ -68,28 +68,28 @@ with_row chain d e =
       rows = d.rows ++ row_of chain d e ∷ [];
     }
 
--- the drawing with the rows of these events more, as long as each may come
+-- the drawing with the rows of these events, as long as each may come
 abbrev pub with_rows : List ℕ → Drawing → List Event → Drawing
 with_rows chain d [] = d
 with_rows chain d (e ∷ es) = if enabled d.machine.state e then with_rows chain (with_row chain d e) es else d
 
--- the machine to which events lead that come one after the other; None where one of them may not come in its turn
+-- the machine to which events lead that come one after the other; None if one of them may not come in its turn
 abbrev pub led_to : Made → List Event → Option Made
 led_to m [] = Some m
 led_to m (e ∷ es) = if enabled m.state e then led_to (moved m e) es else None
 
--- no event has a row so far, and so many came; no line is known of the mails that are in flight
+-- no event has a row yet, and `event` events have come; no line is known for the mails in flight
 abbrev pub begun : Made → ℕ → Drawing
 begun m event = record { machine = m; sent = unknown_mails m.state.mails; event = event; line = 0; rows = [] }
 
--- ---- what the parts of a row's drawing come to
+-- ---- the parts of a row's drawing
 
 -- the events came one after the other, or one of them may not come in its turn
 abbrev pub HaveCome : Made → Made → List Event → Bool → Type 0
 HaveCome m n events true = led_to m events ≡ Some n
 HaveCome m n events false = led_to m events ≡ None
 
--- what an actor has before an event for the words that the event may change
+-- what an actor holds before an event for the words that the event may change
 pub record AreHeldBefore (S : State) (e : Event) (a : Actor) (held : List HeldWord) : Type 0 where
   pub words : List ℕ
   pub gathered : AreGathered (length S.setting.program.memory) (is_affected S (affected_by S e)) words
@@ -128,7 +128,7 @@ pub record HasRow (m n : Made) (e : Event) (look : Look) (event line : ℕ) (on_
   pub moves : n ≡ moved m e
   pub is : row ≡ row_with m.state e look event line on_chain
 
--- the drawing d has become f by one row more
+-- the drawing d with one more row is f
 pub record IsNextRow (on_chain : Bool) (d f : Drawing) (e : Event) : Type 0 where
   pub may : enabled d.machine.state e ≡ true
   pub is : (chain : List ℕ) → on_chain ≡ is_on_chain chain d.event → f ≡ with_row chain d e
@@ -138,7 +138,7 @@ pub record IsNextRow (on_chain : Bool) (d f : Drawing) (e : Event) : Type 0 wher
   pub line : f.line ≤ 65538 * length f.rows
   pub sent : AreNotedFor f.sent f.machine.state.mails
 
--- what came of an event that was to have a row: nothing, as it may not come, or it came
+-- the result for an event that was to have a row: nothing, since it may not come, or it came
 abbrev pub IsRowed : Bool → Drawing → Drawing → Event → Bool → Type 0
 IsRowed on_chain d f e false = (enabled d.machine.state e ≡ false) × (f ≡ d)
 IsRowed on_chain d f e true = IsNextRow on_chain d f e

@@ -63,7 +63,7 @@ leaves_for bank mail = is_bank bank mail.to
 abbrev pub uses_bank : ℕ → ChartRow → Bool
 uses_bank bank row = is_bank bank row.actor || comes_from bank row.mail
 
--- whether a bank has a column: it does something in the chart, or all of them have one
+-- whether a bank has a column: it does something in the chart, or all banks have one
 abbrev pub has_column : Columns → List ChartRow → List LeavingMail → ℕ → Bool
 has_column All rows leaving bank = true
 has_column Used rows leaving bank = list_any (uses_bank bank) rows || list_any (leaves_for bank) leaving

@@ -10,7 +10,7 @@ use Rattle.message_net.specs.Pool.{of_id}
 use Rattle.message_chart.specs.declared.chart.Origin.{Origin}
 use Rattle.run_chart.specs.declared.mails.SentMail.{SentMail}
 
--- the line that is noted of the mail with an id, or else this one
+-- the line that is noted for the mail with an id, otherwise the given one
 abbrev pub noted_line : MailId → Option ℕ → List SentMail → Option ℕ
 noted_line id line [] = line
 noted_line id line (s ∷ ss) = if same_id s.id id then s.line else noted_line id line ss
@@ -54,7 +54,7 @@ abbrev pub place_handled : List Mail → Event → Option ℕ
 place_handled mails (Handle id) = position (of_id id) mails
 place_handled mails _ = None
 
--- what is noted once the mail at a place is handled: the last one takes its place, as in the pool
+-- what is noted once the mail at an index is handled: the last one moves to its index, as in the pool
 abbrev pub mails_left_at : ℕ → List SentMail → Option SentMail → List SentMail
 mails_left_at place sent None = sent
 mails_left_at place sent (Some s) = swap_remove sent place s

@@ -1,4 +1,4 @@
--- What an actor has for each word, and what becomes of it.
+-- What an actor holds for each word, and how that changes.
 use Rattle.std.specs.Prelude.{ℕ, ◌+◌, ◌==◌, Bool, true, false, List, [], ◌∷◌, length, map, slice_get, Option, Some, None, if◌then◌else◌}
 use Rattle.std.specs.List.{range_with_len}
 use Rattle.message_net.specs.declared.actor.Actor.{Actor}
@@ -13,7 +13,7 @@ use Rattle.message_chart.specs.declared.states.WordState.TheVariants.{Absent, Va
 use Rattle.message_chart.specs.declared.states.WordChange.{WordChange}
 use Rattle.run_chart.specs.declared.words.HeldWord.{HeldWord}
 
--- what a core has for a word, by the entry of its cache
+-- what a core holds for a word, by the entry of its cache
 abbrev pub of_entry : Option Entry → WordState
 of_entry None = Absent
 of_entry (Some (entry.TheVariants.Valid value false)) = Valid value
@@ -22,13 +22,13 @@ of_entry (Some (entry.TheVariants.Registered value false)) = Registered value
 of_entry (Some (entry.TheVariants.Registered value true)) = Pending value
 of_entry (Some (entry.TheVariants.Leaving value)) = Leaving value
 
--- what a word's home has for it
+-- what a word's home holds for it
 abbrev pub of_home : Option BankWord → WordState
 of_home None = Absent
 of_home (Some (home.TheVariants.Home value)) = Home value
 of_home (Some (home.TheVariants.Reg core)) = At core
 
--- what an actor has for a word in a state
+-- what an actor holds for a word in a state
 abbrev pub word_state : State → Actor → ℕ → WordState
 word_state S (actor.Core core) w = of_entry (entry_at S core.0 w)
 word_state S (actor.Bank bank) w = of_home (word_in w (slice_get S.banks bank.0))
@@ -63,7 +63,7 @@ changes_from after w (before ∷ befores) = with_change w before (after w) (chan
 abbrev pub changes_in : State → State → Actor → List WordChange
 changes_in S T a = changes_from (word_state T a) 0 (word_states S a)
 
--- ---- the same by the words that may change alone
+-- ---- the same, from only the words that may change
 
 -- what an actor has for these words
 abbrev pub held_word : State → Actor → ℕ → HeldWord

@@ -10,7 +10,7 @@ use dn_machine::Machine;
 use message_net::{Actor, Event, Mail, MailId, Message, Pool};
 use rv_core::Need;
 
-/// The words for which an event may change what its actor has.
+/// The words for which an event may change what its actor holds.
 #[derive(Clone, Copy, Debug)]
 pub(crate) enum Affected {
     Nothing,

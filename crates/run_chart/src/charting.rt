@@ -15,7 +15,7 @@ use message_chart::{Chart, ChartRow, LeavingMail, WaitingTask};
 use message_net::Event;
 use std::alloc::Global;
 
-/// A drawing without rows, after so many events.
+/// A drawing without rows, after `event` events.
 fn begun(alloc: Global, machine: Machine, event: u32) -> Result<Drawing, Memory>
     ensures { IfOk result (λ drawing. drawing ≡ begun machine event) }
 {
@@ -29,7 +29,7 @@ fn begun(alloc: Global, machine: Machine, event: u32) -> Result<Drawing, Memory>
     })
 }
 
-/// The first so many of some events, or all where there are no more.
+/// The first `wanted` events, or all if there are no more.
 fn first_of(events: &[Event], wanted: u32) -> (&[Event], &[Event])
     ensures front { result.0.now ≡ take wanted events.now }
     ensures back { result.1.now ≡ drop wanted events.now }
@@ -43,8 +43,8 @@ fn first_of(events: &[Event], wanted: u32) -> (&[Event], &[Event])
     }
 }
 
-/// What is drawn of a range of events. Those before it are only made, and those after it aren't looked at. None where one before it may
-/// not come in its turn.
+/// The drawing of a range of events. Those before it are only made, and those after it aren't looked at. None if one before it
+/// may not come in its turn.
 fn drawn(
     alloc: Global,
     machine: Machine,
@@ -69,14 +69,14 @@ fn drawn(
     Ok(Some(drawing))
 }
 
-/// Whether no event comes after the range, of so many.
+/// Whether no event of `events` follows the range.
 fn reaches_end(range: Range, events: u32) -> bool
     ensures { result ≡ reaches_end range events }
 {
     events as u64 <= range.first as u64 + range.most as u64
 }
 
-/// The tasks that wait for a lock as the run ends, if the chart reaches its end.
+/// The tasks that wait for a lock when the run ends, if the chart reaches its end.
 fn waiting_at(
     alloc: Global,
     is_end: bool,
@@ -179,23 +179,23 @@ fn finished(alloc: Global, frame: Frame, drawing: Drawing) -> Result<Chart, Memo
     chart_with(alloc, frame, rows, leaving, waiting, line)
 }
 
-/// The message chart of a range of a run's events, with marks for the events whose numbers the chain has.
+/// The message chart of a range of a run's events, with marks for the events whose numbers are in the chain.
 ///
-/// A row tells which actor makes the event, what it is and what it is about, where the mail that it handles comes from, how a task ends
-/// with it, and each data word for which the actor has something else after the event. After the rows stand the mails that an
-/// event of the range sent and none of them handles, and, where no event comes after the range, the tasks that wait for a lock. The
-/// chart goes as far as the events may come one after the other from the initial machine of the checked program, this shape and
-/// this fuel on; those of a run all may.
+/// A row tells which actor makes the event, what it is and what it is about, where the mail that it handles comes from, how a
+/// task ends with it, and each data word for which the actor holds something else after the event. After the rows come the
+/// mails that an event of the range sent and none of them handles and, if no event follows the range, the tasks that wait for a
+/// lock. The chart goes as far as the events may come one after the other, from the initial machine of the checked program,
+/// this shape and this fuel on; all events of a run may.
 ///
-/// The shape has the cores that the program needs, 1 to 16 banks, 1 to 256 sets and 1 to 16 ways, a task may retire `fuel`
-/// instructions, 1 to 32,768, there are at most 25,169,664 events, and the range has at most 4,096.
+/// The shape must have as many cores as the program needs, 1 to 16 banks, 1 to 256 sets and 1 to 16 ways. A task may retire
+/// `fuel` instructions, 1 to 32,768. There must be at most 25,169,664 events, and the range has at most 4,096.
 ///
-/// An event before the range is only made, and one after it isn't looked at. One of the range costs what it sends and takes,
-/// however many mails are in flight, and looks at the words that it may change: at one, or at a Grant or a Go at each of the core's
-/// entries. The chain is gone through once, and needn't be in order.
+/// An event before the range is only made, and one after it isn't looked at. The cost of an event of the range grows with what
+/// it sends and takes, not with the mails in flight. It looks at the words that it may change: at one, or at a Grant or a Go at
+/// each of the core's entries. The chain is gone through once, and needn't be in order.
 ///
 /// # Errors
-/// `Memory` where there is no room for the machine, its mails or the rows.
+/// `Memory` if there is no room for the machine, its mails or the rows.
 pub fn chart(
     alloc: Global,
     checked: Checked,

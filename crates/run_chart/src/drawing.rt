@@ -22,7 +22,7 @@ use rv_core::End;
 use std::alloc::Global;
 use std::mem;
 
-/// Which events have rows: the first of them, numbered from 0, and how many there are at most, up to 4,096.
+/// Which events have rows: the number of the first, from 0, and the greatest number of rows, up to 4,096.
 #[derive(Clone, Copy, Debug, PartialEq, Eq)]
 pub struct Range {
     pub first: u32,
@@ -53,11 +53,11 @@ pub(crate) struct Look {
     pub(crate) mail: Option<Origin>,
     /// How the actor's task ends with it.
     pub(crate) end: Option<End>,
-    /// What the actor has for each data word that it may change.
+    /// What the actor holds for each data word that the event may change.
     pub(crate) held: Sequence<HeldWord>,
 }
 
-/// Makes events one after the other, as long as each may come, and tells whether all of them came.
+/// Makes events one after the other, as long as each may come. Returns whether all of them came.
 ///
 /// # Errors
 /// `Memory` where there is no room for the mails.
@@ -76,7 +76,7 @@ pub(crate) fn pass(machine: &mut Machine, events: &[Event]) -> Result<bool, Memo
     Ok(true)
 }
 
-/// The actor that the mail with this id goes to; the keeper where no mail in flight has the id.
+/// The receiver of the mail with this id; the keeper if no mail in flight has the id.
 fn receiver(pool: &Pool, id: MailId) -> Actor
     ensures { result ≡ the_actor (receiver_of (removed id pool.now.mails).0) }
 {
@@ -99,7 +99,7 @@ fn event_maker(machine: &Machine, event: Event) -> Actor
     }
 }
 
-/// Looks at what the row of an event tells of the time before it.
+/// Looks at what the row of an event tells of the state before it.
 fn look_at(
     alloc: Global,
     machine: &Machine,
@@ -134,7 +134,7 @@ fn end_lines(end: Option<End>) -> u32
     }
 }
 
-/// How many lines a row has: one for its event, one where a task ends, and one for each change.
+/// How many lines a row has: one for its event, one if a task ends, and one for each change.
 fn row_lines(end: Option<End>, changes: &[WordChange]) -> u32
     requires { length changes.now ≤ 65536 }
     ensures { result ≡ row_lines end changes.now }
@@ -142,7 +142,7 @@ fn row_lines(end: Option<End>, changes: &[WordChange]) -> u32
     1 + end_lines(end) + changes.len() as u32
 }
 
-/// Makes an event, where it may come, and gives its row, which has this number and this first line; None where it may not.
+/// Makes an event if it may come, and gives its row, with this number and first line; None if it may not.
 fn row_of(
     alloc: Global,
     machine: &mut Machine,
@@ -202,7 +202,7 @@ impl Drawing {
         self.rows.push(row)
     }
 
-    /// Makes the next event, where it may come, and adds its row; tells whether it came.
+    /// Makes the next event if it may come, and adds its row. Returns whether it came.
     fn add_row(&mut self, alloc: Global, event: Event, on_chain: bool) -> Result<bool, Memory>
         requires made { self.old.machine.made < 4000000000 }
         requires event { self.old.event < 4000000000 }

@@ -19,11 +19,11 @@ use std::alloc::Global;
 pub enum Columns {
     /// All of them.
     All,
-    /// Those that make an event of the range, or that a mail of the chart comes from or goes to.
+    /// Those that make an event of the range, and those that send or get a mail of the chart.
     Used,
 }
 
-/// A mail that is in flight after the range, where an event of the range sent it on this line.
+/// A mail that is in flight after the range; an event of the range sent it on this line.
 fn leaving(mail: Mail, sent: u32, line: u32) -> LeavingMail
     ensures { result ≡ leaving_mail mail sent line }
 {

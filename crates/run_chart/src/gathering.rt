@@ -99,7 +99,7 @@ fn add_affected(words: &mut Vec<u32>, machine: &Machine, affected: Affected) -> 
     }
 }
 
-/// The data words for which an event may change what its actor has, in their order.
+/// The data words for which an event may change what its actor holds, in their order.
 ///
 /// # Errors
 /// `Memory` where there is no room.

@@ -1,5 +1,5 @@
 //! What holds of every chart, said of its rows, for readers of charts.
-//! These are laws: functions that do nothing, whose contracts say it.
+//! A law is a function without effect; its contract states the theorem.
 ghost use Rattle.std.specs.Prelude.{◌≡◌, ℕ, ◌+◌, ◌<◌, ◌≤◌, List, Some, length, map, slice_get};
 ghost use Rattle.std.specs.List.{range_with_len};
 ghost use Rattle.message_net.specs.declared.event.Event.{Event};
@@ -24,7 +24,7 @@ pub fn rows_do_not_overlap()
         → slice_get (chart_of C events range chain columns).rows i ≡ Some a → slice_get (chart_of C events range chain columns).rows j ≡ Some b → a.line + a.lines ≤ b.line }
 {}
 
-/// Each event of the range whose number the chain has is marked, and no other.
+/// Exactly the events of the range whose numbers are in the chain are marked.
 pub fn the_events_of_the_chain_are_marked()
     ensures { (C : Setting) (events : List Event) (range : Range) (chain : List ℕ) (columns : Columns) (i : ℕ) (row : ChartRow)
         → slice_get (chart_of C events range chain columns).rows i ≡ Some row → row.on_chain ≡ is_on_chain chain row.event }

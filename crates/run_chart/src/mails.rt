@@ -7,7 +7,7 @@ use message_chart::Origin;
 use message_net::{Event, MailId, Pool};
 use std::alloc::Global;
 
-/// A mail in flight, and the line of the event that sent it; None where that has no row.
+/// A mail in flight, and the line of the event that sent it; None if that event has no row.
 #[derive(Clone, Copy, Debug)]
 pub(crate) struct SentMail {
     pub(crate) id: MailId,
@@ -27,7 +27,7 @@ fn line_there(sent: &[SentMail], place: Option<u32>) -> Option<u32>
     }
 }
 
-/// The line that is noted of the mail with an id. The pool tells the place of the mail, and its line stands at the same place.
+/// The line that is noted for the mail with an id. The pool gives the index of the mail, and the line has the same index.
 fn line_of(pool: &Pool, sent: &[SentMail], id: MailId) -> Option<u32>
     requires sent { AreNotedFor sent.now pool.now.mails }
     requires distinct { AreDistinct pool.now.mails }
@@ -51,7 +51,7 @@ pub(crate) fn origin_of(pool: &Pool, sent: &[SentMail], event: Event) -> Option<
     }
 }
 
-/// The place of the mail that an event handles; None where it handles none that is in flight.
+/// The index of the mail that an event handles; None if it handles none in flight.
 pub(crate) fn place_handled(pool: &Pool, event: Event) -> Option<u32>
     ensures { result ≡ place_handled pool.now.mails event }
 {
@@ -91,7 +91,7 @@ pub(crate) fn unknown_mails(alloc: Global, pool: &Pool) -> Result<Sequence<SentM
     Ok(sent)
 }
 
-/// Without the mail at a place; the last one takes its place, as in the pool.
+/// Removes the mail at an index. The last one moves to its index, as in the pool.
 fn without(sent: Sequence<SentMail>, place: u32) -> Sequence<SentMail>
     requires { place < length sent }
     ensures { result ≡ mails_left (Some place) sent }
@@ -112,7 +112,7 @@ fn mails_left(sent: Sequence<SentMail>, place: Option<u32>) -> Sequence<SentMail
     }
 }
 
-/// What is noted after an event that handled the mail at a place, and sent on this line what stands last in the pool.
+/// What is noted after an event that handled the mail at an index, and sent on this line the last mails of the pool.
 ///
 /// # Errors
 /// `Memory` where there is no room.

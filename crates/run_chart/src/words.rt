@@ -130,7 +130,7 @@ fn is_same(before: WordState, after: WordState) -> bool
     before == after
 }
 
-/// The changes of these words for an actor, since it had them so.
+/// The changes of these words for an actor, compared with what it held before.
 ///
 /// # Errors
 /// `Memory` where there is no room.

@@ -1,4 +1,4 @@
--- The line that says whether an event may come, or why it may not.
+-- The line that says that an event may come, or why it may not.
 use Rattle.std.specs.Prelude.{ℕ, List, [], ◌++◌, codes, Option, Some, None}
 use Rattle.text_pieces.specs.Pieces.{newline, space}
 use Rattle.region_table.specs.Program.{ProgramParts}
@@ -9,8 +9,8 @@ use Rattle.event_reasons.specs.declared.reason.Reason.{Reason}
 use Rattle.event_reasons.specs.declared.reason.Reason as reason
 use Rattle.state_text.specs.Called.{data_word_text, numbered_core, numbered_mail}
 
--- what a reason says of the core or mail of an event: what stands before the words or the lock that it names, these, and what stands
--- after them
+-- what a reason says of the core or mail of an event: the words before the data words or the lock that it names, these, and the
+-- words after them
 unfoldable pub reason_before : Reason → List ℕ
 reason_before reason.TheVariants.NoCore = codes "isn't there"
 reason_before reason.TheVariants.Halted = codes "is halted"

@@ -1,4 +1,4 @@
--- The lines that show a core: its phase and task, where its task is, what it waits for, which locks it holds, its marks, and its
+-- The lines of a core: its phase and task, where its task is, what it waits for, which locks it holds, its flags, and its
 -- entries.
 use Rattle.std.specs.Prelude.{ℕ, ◌-◌, ◌/◌, ◌%◌, ◌==◌, ◌&&◌, nat_le, Bool, List, [], ◌++◌, length, flat_map, slice_get, codes, Option, Some, None, if◌then◌else◌}
 use Rattle.std.specs.List.{range_with_len}
@@ -31,7 +31,7 @@ phase_line n = numbered_core n.core ++ codes " phase " ++ decimal n.phase ++ new
 unfoldable pub no_task_line : ℕ → List ℕ
 no_task_line core = numbered_core core ++ codes " no task" ++ newline
 
--- whether the task goes on, or how it has ended
+-- whether the task is running, or how it has ended
 unfoldable pub running_line : ℕ → List ℕ
 running_line core = numbered_core core ++ codes " task goes on" ++ newline
 

@@ -1,4 +1,4 @@
--- The lines that show the keeper, the homes of words, the locks and the mails in flight.
+-- The lines of the keeper, the homes of words, the locks and the mails in flight.
 use Rattle.std.specs.Prelude.{ℕ, ◌-◌, ◌==◌, List, [], ◌++◌, length, flat_map, slice_get, slice_index, codes, Option, Some, None, if◌then◌else◌}
 use Rattle.std.specs.List.{range_with_len}
 use Rattle.std.specs.Fmt.{decimal}
@@ -46,7 +46,7 @@ abbrev pub keeper_lines : Barrier → List ℕ
 keeper_lines k =
     keeper_phase_line k ++ (flat_map (counted_line_of k) (range_with_len 0 (length k.arrived)) ++ (if k.bad then bad_line else []))
 
--- ---- homes: a word has a line where its home names a registrant, or has another value than the first one
+-- ---- homes: a word has a line if its home names a registrant, or has another value than the initial one
 
 unfoldable pub home_text : ProgramParts → ℕ → List ℕ
 home_text P w = codes "home " ++ data_word_text P w
@@ -91,7 +91,7 @@ abbrev pub signature_lines : State → Signed → Signature → ℕ → List ℕ
 signature_lines S of s lock =
     flat_map (interval_lines_of S.setting.program of s S.keeper.phase) (guarded_by (slice_get S.setting.plans S.keeper.phase) lock)
 
--- ---- locks: the holder, the cores that wait, the first of them first, and the kept signature
+-- ---- locks: the holder, the cores that wait, in order, and the signature of the lock's home
 
 unfoldable pub free_line : ProgramParts → ℕ → List ℕ
 free_line P lock = lock_name_text P lock ++ codes ": free" ++ newline
@@ -131,7 +131,7 @@ lock_lines_at S lock = lock_lines_of S lock (lock_at S lock)
 abbrev pub lock_lines : State → List ℕ
 lock_lines S = flat_map (lock_lines_at S) (range_with_len 0 (length S.setting.program.locks))
 
--- ---- mails: who gets it, and what it says
+-- ---- mails: the receiver and the message
 
 unfoldable pub of_word : ProgramParts → ℕ → List ℕ
 of_word P w = space ++ data_word_text P w

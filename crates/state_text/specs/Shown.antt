@@ -1,4 +1,5 @@
--- A state as it is shown: which event is asked for, and whether it may come; the parts of the state; and the events that may come.
+-- A state as it is printed: which event was asked for, and whether it may come; the parts of the state; and the events that may
+-- come.
 use Rattle.std.specs.Prelude.{ℕ, ◌==◌, List, [], ◌++◌, length, flat_map, slice_get, codes, Option, Some, None, if◌then◌else◌}
 use Rattle.std.specs.Fmt.{decimal}
 use Rattle.text_pieces.specs.Pieces.{newline}
@@ -24,7 +25,7 @@ not_reached = codes " isn't reached: "
 unfoldable pub may_not : List ℕ
 may_not = codes " may not come"
 
--- an earlier event may not come, so that the one that is asked for isn't reached
+-- an earlier event may not come, so the one that was asked for isn't reached
 unfoldable pub unreached_line : ℕ → ℕ → List ℕ
 unreached_line asked place = numbered_event asked ++ not_reached ++ numbered_event place ++ may_not ++ newline
 
@@ -34,7 +35,7 @@ event_head place count = numbered_event place ++ codes " of " ++ decimal count +
 unfoldable pub event_line_text : ProgramParts → ℕ → ℕ → Event → List ℕ
 event_line_text P place count e = event_head place count ++ event_text P e ++ newline
 
--- after the last event stands none
+-- no event follows the last one
 unfoldable pub end_line : ℕ → ℕ → List ℕ
 end_line place count = event_head place count ++ codes "the document ends" ++ newline
 
@@ -43,7 +44,7 @@ event_lines_at S place count None = end_line place count
 event_lines_at S place count (Some e) =
     event_line_text S.setting.program place count e ++ whether_line S.setting.program e (reason_against S e)
 
--- the event of this number, where the one that is asked for may be a later one
+-- the event of this number; the one that was asked for may be a later one
 abbrev pub asked_lines : State → List Event → ℕ → ℕ → List ℕ
 asked_lines S events asked place =
     (if place == asked then [] else unreached_line asked place) ++ event_lines_at S place (length events) (slice_get events place)

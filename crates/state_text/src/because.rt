@@ -74,7 +74,7 @@ fn push_names(out: &mut Vec<u8>, program: &Program, reason: Reason) -> Result<()
     }
 }
 
-/// Adds what follows them.
+/// Adds the words after them.
 #[tactic(auto, unfolding(crate::specs::Because::reason_behind))]
 fn push_behind(out: &mut Vec<u8>, reason: Reason) -> Result<(), Memory>
     ensures { OnOk result (out.new.items ≡ out.old.items ++ reason_behind reason) }

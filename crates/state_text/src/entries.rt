@@ -11,7 +11,7 @@ use std::alloc::Global;
 use text_pieces::{push, push_hexadecimal};
 use word_cache::Entry;
 
-/// Adds a word, if it is so.
+/// Adds a word, if the flag is set.
 fn push_flag(out: &mut Vec<u8>, word: &[u8], flag: bool) -> Result<(), Memory>
     ensures { OnOk result (out.new.items ≡ out.old.items ++ flag_text word.now flag) }
 {

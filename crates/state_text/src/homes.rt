@@ -1,4 +1,4 @@
-//! The lines of the words whose homes aren't as at first.
+//! The lines of the words whose homes don't hold the initial value.
 ghost use Rattle.std.specs.Prelude.{◌≡◌, ℕ, ◌<◌, ◌++◌, flat_map, length, OnOk};
 ghost use Rattle.std.specs.List.{range_with_len};
 ghost use Rattle.machine_rules.specs.State.{home_at};
@@ -11,7 +11,7 @@ use region_table::Program;
 use registry_bank::BankWord;
 use text_pieces::{push, push_hexadecimal};
 
-/// What the home of a word has for it.
+/// What the home of a word holds for it.
 pub(crate) fn home_of(machine: &Machine, word: WordId) -> Option<BankWord>
     ensures { result ≡ home_at machine.now.state word.0 }
 {
@@ -54,7 +54,7 @@ fn push_value(out: &mut Vec<u8>, program: &Program, word: WordId, value: u32) ->
     push(out, b"\n")
 }
 
-/// Adds what the home of a word has for it, if that isn't the word's first value.
+/// Adds what the home of a word holds for it, if that isn't the word's initial value.
 fn push_home(
     out: &mut Vec<u8>,
     program: &Program,
@@ -84,7 +84,7 @@ fn word_count(program: &Program) -> u32
     program.memory.len() as u32
 }
 
-/// Adds the homes of words that aren't as at first.
+/// Adds the homes that don't hold the initial value of their word.
 pub(crate) fn push_homes(out: &mut Vec<u8>, machine: &Machine) -> Result<(), Memory>
     ensures { OnOk result (out.new.items ≡ out.old.items ++ home_lines machine.now.state) }
 {

@@ -1,6 +1,6 @@
-//! A state of the machine as text: what each part has, one fact a line, and which events may come.
+//! A state of the machine as text: what each part holds, one fact a line, and which events may come.
 //!
-//! Words, code words and locks are called as the text of the program calls them. Every line ends with a newline.
+//! Words, code words and locks have the names of the program's text. Every line ends with a newline.
 #![tactic(auto)]
 
 mod answer;

@@ -92,7 +92,7 @@ fn push_if_queued(
     }
 }
 
-/// Adds the cores that wait for a lock, the first of them first.
+/// Adds the cores that wait for a lock, in the order of its queue.
 fn push_queue(
     out: &mut Vec<u8>,
     program: &Program,
@@ -120,7 +120,7 @@ fn push_holding(
     push_queue(out, program, lock, home)
 }
 
-/// Adds what the home of a lock has for it.
+/// Adds what the home of a lock holds for it.
 fn push_home_lines(
     out: &mut Vec<u8>,
     machine: &Machine,

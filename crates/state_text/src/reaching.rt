@@ -12,7 +12,7 @@ use message_net::Event;
 use std::alloc::Global;
 use text_places::Places;
 
-/// Makes events one after the other, as long as each may come; how many came.
+/// Makes events one after the other, as long as each may come. Returns how many came.
 ///
 /// # Errors
 /// `Memory` where there is no room for the mails.
@@ -33,17 +33,17 @@ fn follow(machine: &mut Machine, events: &[Event]) -> Result<u32, Memory>
     Ok(came)
 }
 
-/// The state before the event of a number, from 0, as text; or before an earlier event, if that is the first that may not come. The
-/// number of all events asks for the state after the last one. The reason against the event holds, and the events that are listed
-/// are exactly those that may come.
+/// The state before the event of a number, from 0, as text; or before an earlier event, if that is the first that may not come.
+/// The number of all events asks for the state after the last one. The reason against the event is true, and exactly the events
+/// that may come are listed.
 ///
-/// The places are those of the program's text: lines and names are taken from them and from the program. The shape has the cores that
-/// the program needs, 1 to 16 banks, 1 to 256 sets and 1 to 16 ways, a task may retire `fuel` instructions, 1 to 32,768, and there are at
-/// most 25,169,664 events. Only those before the one that is asked for are made; the mail that one of them handles is found by its
-/// id in constant time. Then each part of the state is looked at once.
+/// The places must be those of the program's text, from which lines and names are taken. The shape must have as many cores as
+/// the program needs, 1 to 16 banks, 1 to 256 sets and 1 to 16 ways. `fuel`, the number of instructions that a task may retire,
+/// must be 1 to 32,768, and there must be at most 25,169,664 events. Only the events before the one that is asked for are made;
+/// a mail that one of them handles is found by its id in constant time. Then each part of the state is looked at once.
 ///
 /// # Errors
-/// `Memory` where there is no room for the machine, its mails or the text.
+/// `Memory` if there is no room for the machine, its mails or the text.
 pub fn state_at(
     alloc: Global,
     places: &Places,

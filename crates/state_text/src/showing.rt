@@ -106,7 +106,7 @@ fn push_event_at(
     }
 }
 
-/// Adds which event is asked for, and at which one the state is.
+/// Adds which event was asked for, and before which one the state is.
 fn push_asked(
     out: &mut Vec<u8>,
     machine: &Machine,
@@ -178,7 +178,7 @@ fn push_state(
     push_all_that_may(out, machine.program(), events.as_slice())
 }
 
-/// The text of a machine's state, before the event at a place, which may be an earlier one than the one that is asked for.
+/// The text of a machine's state before the event at an index, which may be before the one that was asked for.
 #[tactic(auto, unfolding(crate::specs::Shown::shown_text))]
 pub(crate) fn shown(
     alloc: Global,

@@ -1,6 +1,6 @@
 use message_net::MailId;
 
-/// What has a signature that is shown.
+/// The owner of a signature that is printed.
 #[derive(Clone, Copy, Debug, PartialEq, Eq)]
 pub(crate) enum Signed {
     /// The lock of this number, at its home.

@@ -46,7 +46,7 @@ fn push_ended(out: &mut Vec<u8>, core: CoreId, end: End) -> Result<(), Memory>
     push(out, b"\n")
 }
 
-/// Adds whether a task goes on, or how it has ended.
+/// Adds whether a task is running, or how it has ended.
 fn push_standing(out: &mut Vec<u8>, core: CoreId, end: Option<End>) -> Result<(), Memory>
     ensures { OnOk result (out.new.items ≡ out.old.items ++ standing_line core.0 end) }
 {
@@ -98,7 +98,7 @@ fn push_no_code(out: &mut Vec<u8>, core: CoreId, address: u32) -> Result<(), Mem
     push(out, b"\n")
 }
 
-/// Adds where the code word is that has an address, if it has a place and is one of the program's.
+/// Adds the origin of the code word at an address, if it is one of the program's and has one.
 fn push_at_place(
     out: &mut Vec<u8>,
     core: CoreId,

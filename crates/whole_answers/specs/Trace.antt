@@ -1,4 +1,5 @@
--- Which answers are the document of a run of a text, and where one that begins so goes wrong. What a document is, is defined in run_replay.
+-- Which answers are the document of a run of a text, and where another answer first differs from one. run_replay defines what a
+-- document is.
 use Rattle.std.specs.Prelude.{◌≡◌, ◌≢◌, ◌⊎◌, ℕ, ◌+◌, ◌<◌, List, ◌++◌, codes, length}
 use Rattle.text_pieces.specs.Pieces.{newline}
 use Rattle.document_parts.specs.Field.{field, IsFrom, NoneStands}
@@ -18,7 +19,7 @@ pub record IsTraceOf (text answer : List ℕ) (t : Trace) : Type 0 where
   pub is : IsDocument answer t
   pub of : t.text ≡ text
 
--- ---- where a document goes wrong, by the number of the line: the first line says what it is, the second the machine's size
+-- ---- where a document goes wrong, by the number of the line: the first line is its title, the second the machine's size
 
 -- the second line isn't there
 pub record HasNoShape (answer : List ℕ) (line : ℕ) : Type 0 where
@@ -27,7 +28,7 @@ pub record HasNoShape (answer : List ℕ) (line : ℕ) : Type 0 where
   pub none : NoneStands IsTraceShape shape_line rest
   pub line_is : line ≡ 2
 
--- after it another text stands, or none
+-- after it comes another text, or none
 pub record HasOtherText (text answer : List ℕ) (line : ℕ) : Type 0 where
   pub shape : TraceShape
   pub fits : IsTraceShape shape
@@ -52,7 +53,7 @@ pub record HasNoEvent (text answer : List ℕ) (line : ℕ) : Type 0 where
   pub of : broken.head.text ≡ text
   pub line_is : line ≡ 3 + line_behind (source_part text) + number
 
--- bytes stand after the line of the last event
+-- bytes follow the line of the last event
 pub record HasBytesBehind (text answer : List ℕ) (line : ℕ) : Type 0 where
   pub more : GoesOn answer
   pub of : more.head.text ≡ text
@@ -62,7 +63,8 @@ abbrev pub GoesWrongAt : (text answer : List ℕ) → ℕ → Type 0
 GoesWrongAt text answer line =
     HasNoShape answer line ⊎ (HasOtherText text answer line ⊎ (HasNoCount text answer line ⊎ (HasNoEvent text answer line ⊎ HasBytesBehind text answer line)))
 
--- the answer is the document of a run of the text; or begins as a document, and goes wrong; or begins in another way, or is too large
+-- the answer is the document of a run of the text; or it begins as a document, and then goes wrong; or it begins otherwise, or
+-- is too large
 abbrev pub IsTraceTaken : (text answer : List ℕ) → Taken → Type 0
 IsTraceTaken text answer taken.TheVariants.Whole = (t : Trace) × IsTraceOf text answer t
 IsTraceTaken text answer (taken.TheVariants.Stops line) = GoesWrongAt text answer line
@@ -70,7 +72,7 @@ IsTraceTaken text answer taken.TheVariants.Other = ((rest : List ℕ) → answer
 
 -- ---- for the code
 
--- what is taken of an answer with this fault, which should have so many events, the first of them at this line
+-- what is taken of an answer with this fault; `count` events should follow, the first of them on this line
 abbrev pub taken_by : (count line : ℕ) → TraceFault → Taken
 taken_by count line TooLarge = taken.TheVariants.Other
 taken_by count line NoHead = taken.TheVariants.Other
@@ -78,7 +80,7 @@ taken_by count line (Line number) = taken.TheVariants.Stops (line + number)
 taken_by count line Rest = taken.TheVariants.Stops (line + count)
 taken_by count line Memory = taken.TheVariants.Other
 
--- what stands before the events stands in front of an answer
+-- the answer begins with all that comes before the events
 
 pub record StandsHead (text answer : List ℕ) (count : ℕ) : Type 0 where
   pub head : Head

@@ -1,8 +1,8 @@
-//! Which line of an answer is the first that isn't as it should be.
+//! The first line of an answer that isn't as it should be.
 ghost use Rattle.std.specs.Prelude.{◌≡◌, ◌<◌, ◌≤◌, ◌+◌, length, take};
 ghost use Rattle.whole_answers.specs.Fronts.{alike, line_behind};
 
-/// How many bytes two texts begin with alike.
+/// The length of the longest common prefix of two texts, in bytes.
 pub(crate) fn alike(left: &[u8], right: &[u8]) -> usize
     ensures front { take result left.now ≡ alike left.now right.now }
     ensures within { result ≤ length left.now }
@@ -16,7 +16,7 @@ pub(crate) fn alike(left: &[u8], right: &[u8]) -> usize
     both
 }
 
-/// The number of the line after some bytes in front of an answer, from 1.
+/// The number, from 1, of the line that follows these bytes, which are a prefix of an answer.
 #[tactic(auto, unfolding(crate::specs::Fronts::line_behind))]
 pub(crate) fn line_behind(front: &[u8]) -> usize
     ensures line { result ≡ line_behind front.now }

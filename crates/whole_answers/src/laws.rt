@@ -1,4 +1,4 @@
-//! What the definitions come to, as a law: a function that does nothing, whose contract says it.
+//! A law of documents: a function without effect, whose contract states the theorem.
 ghost use Rattle.std.specs.Prelude.{◌≡◌, ℕ, List};
 ghost use Rattle.run_replay.specs.declared.trace.Trace.{Trace};
 ghost use Rattle.whole_answers.specs.declared.taken.Taken.{Taken};

@@ -1,4 +1,4 @@
-//! The answers of `denovo` that are texts as a whole: the listing of a program, which is explained, and the document of a run.
+//! The answers of `denovo` that are whole texts: the listing of a program, which is explained, and the document of a run.
 #![tactic(auto)]
 
 mod fronts;

@@ -69,7 +69,7 @@ fn push_code_said(
     }
 }
 
-/// Adds what is said after the line of this number, where the code's lines begin with the line `first`.
+/// Adds what is said after the line of this number; the lines of the code begin with the line `first`.
 fn push_said_behind(
     out: &mut Vec<u8>,
     text: &[u8],
@@ -87,7 +87,7 @@ fn push_said_behind(
     push_code_said(out, text, spans, located.places.code_word(number - first))
 }
 
-/// Adds the lines of a listing, which stand there in the answer, and what is said after each.
+/// Adds the lines of a listing, which the answer has, and what is said after each.
 fn push_lines(
     out: &mut Vec<u8>,
     text: &[u8],
@@ -131,14 +131,14 @@ fn push_explained(
     )
 }
 
-/// Takes an answer that is the listing of a text's program, as the mode list prints it: adds each of its lines, and after the line of
-/// a code word the line of the text that gives it.
+/// Takes an answer that is the listing of a text's program, as the mode list prints it. Appends each of its lines, and after
+/// the line of a code word the line of the text that gives it.
 ///
-/// Of an answer that isn't the listing, but begins with the listing's first line, the first other line is told. Nothing is said of any
-/// other answer. What stands at the end of `out` then isn't said.
+/// If an answer begins with the listing's first line, and isn't the listing, the first line that differs is given. Of any other
+/// answer nothing is said. In both cases the end of `out` isn't defined.
 ///
 /// # Errors
-/// `Memory` where there is no room.
+/// `Memory` if there is no room.
 pub fn take_listing(
     alloc: Global,
     out: &mut Vec<u8>,

@@ -59,7 +59,7 @@ fn span_at(spans: &[Span], number: usize) -> Option<Span>
     spans.get(number).copied()
 }
 
-/// Adds the line of this number, from 1, after its number; nothing where the text has no such line.
+/// Adds the line of this number, from 1, after its number; nothing if the text has no such line.
 pub(crate) fn push_quoted_line(
     out: &mut Vec<u8>,
     text: &[u8],

@@ -1,4 +1,4 @@
-//! The second line of a document, read apart from the others.
+//! The second line of a document, read by itself.
 ghost use Rattle.std.specs.Prelude.{◌≡◌, IfSome, IfNone};
 ghost use Rattle.document_parts.specs.Field.{Stands, NoneStands};
 ghost use Rattle.run_replay.specs.Document.{IsTraceShape, shape_line};

@@ -1,10 +1,10 @@
-/// What of an answer was taken.
+/// How much of an answer was taken.
 #[derive(Clone, Copy, Debug, PartialEq, Eq)]
 pub enum Taken {
     /// All of it: it is the text's, and was explained.
     Whole,
-    /// It begins as the text's, and the line of this number, from 1, is the first that isn't the text's.
+    /// It begins as the text's answer. The line of this number, from 1, is the first that differs.
     Stops { line: usize },
-    /// Nothing: it begins in another way.
+    /// Nothing: its first line differs.
     Other,
 }

@@ -34,7 +34,7 @@ fn source_part(alloc: Global, text: &[u8]) -> Result<Vec<u8>, Memory>
     Ok(part)
 }
 
-/// The fault of an answer as a document; None where it is one.
+/// The fault of an answer as a document; None if it is one.
 fn fault_of(alloc: Global, answer: &[u8]) -> Result<Option<TraceFault>, Memory>
     ensures { IfOk result (λ found. MatchOption found ((t : TraceOf) × IsDocument answer.now t) (HasFault answer.now)) }
 {
@@ -45,7 +45,7 @@ fn fault_of(alloc: Global, answer: &[u8]) -> Result<Option<TraceFault>, Memory>
     }
 }
 
-/// What is taken of an answer with this fault, which should have so many events, the first of them at this line.
+/// What is taken of an answer with this fault; `count` events should follow, the first of them on this line.
 fn taken_by(count: u32, line: usize, fault: TraceFault) -> Taken
     requires { line ≤ 18446744069414584319 }
     ensures { result ≡ taken_by count line fault }
@@ -61,7 +61,7 @@ fn taken_by(count: u32, line: usize, fault: TraceFault) -> Taken
     }
 }
 
-/// Takes an answer in front of which stands all that stands before the lines of so many events, the first of them at this line.
+/// Takes an answer that begins with all that comes before `count` events, the first of them on this line.
 fn taken_by_events(
     alloc: Global,
     text: &[u8],
@@ -81,12 +81,13 @@ fn taken_by_events(
     }
 }
 
-/// Takes an answer that is the document of a run of a text, as the mode trace prints it. Whether the events may come isn't asked.
+/// Takes an answer that is the document of a run of a text, as the mode trace prints it. It isn't checked whether the events
+/// may come.
 ///
-/// Of an answer that isn't such a document, but begins with a document's first line, the first other line is told.
+/// If an answer begins with a document's first line, and isn't such a document, the first line that differs is given.
 ///
 /// # Errors
-/// `Memory` where there is no room.
+/// `Memory` if there is no room.
 pub fn take_trace(alloc: Global, text: &[u8], answer: &[u8]) -> Result<Taken, Memory>
     requires { length text.now ≤ 1048576 }
     ensures { IfOk result (IsTraceTaken text.now answer.now) }
