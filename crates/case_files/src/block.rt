@@ -12,7 +12,7 @@ pub fn push_line(out: &mut Vec<u8>, line: &str) -> Result<(), AllocError>
     Ok(())
 }
 
-/// Adds so many copies of a line, each with its number, from 0, in place of each `@`.
+/// Adds copies of a line, with the number of each, from 0, in place of each `@`.
 pub fn push_copies(
     alloc: Global,
     out: &mut Vec<u8>,
@@ -27,7 +27,7 @@ pub fn push_copies(
     Ok(())
 }
 
-/// Adds a line for each grant, which is given as its phase, core and lock with points between them.
+/// Adds a line for each grant. A grant is given as its phase, core and lock with points between them.
 pub fn push_grants(alloc: Global, out: &mut Vec<u8>, grants: &str) -> Result<(), AllocError> {
     for grant in grants.split_whitespace() {
         let grant = grant.replace(alloc, ".", " ")?;
@@ -37,7 +37,7 @@ pub fn push_grants(alloc: Global, out: &mut Vec<u8>, grants: &str) -> Result<(),
     Ok(())
 }
 
-/// So many copies of these bytes.
+/// Copies of these bytes, one after the other.
 #[tactic(auto, using(crate::proofs::RepeatLemmas::repeat_more))]
 pub fn copies(alloc: Global, bytes: &[u8], count: u32) -> Result<Vec<u8>, AllocError>
     ensures { IfOk result (λ all. all.items ≡ repeat count bytes.now) }

@@ -28,11 +28,11 @@ pub struct Case {
     pub per_write: u32,
     /// The numbers of the writes and flushes that fail.
     pub failing_writes: Vec<u32>,
-    /// The events that the machine makes in place of a run, where they are given.
+    /// The events that the machine makes instead of a run, if they are given.
     pub script: Option<Vec<ScriptLine>>,
     /// The exit code.
     pub exit: u8,
-    /// The parts of what is written, between which any lines may stand.
+    /// The parts of the output, between which any lines may stand.
     pub output: Vec<Sequence<u8>>,
     ghost reads_some: { 0 < per_read },
     ghost writes_some: { 0 < per_write },
@@ -62,7 +62,7 @@ pub struct Draft {
 }
 
 impl Case {
-    /// A case that gives nothing and wants nothing.
+    /// A case without words and text that wants no output.
     fn new(alloc: Global) -> Case {
         Case {
             words: Vec::new(alloc),
@@ -186,7 +186,7 @@ impl Draft {
         }
     }
 
-    /// Has all that stands above stand so many times.
+    /// Repeats all lines so far.
     fn repeat_all(&mut self, count: u32) -> Result<(), Trouble> {
         self.part = copies(self.alloc, self.part.as_slice(), count)?;
         Ok(())
@@ -246,7 +246,7 @@ impl Draft {
         Ok(())
     }
 
-    /// Begins with nothing, or with what a file or the text of an earlier case holds.
+    /// Begins with nothing, or with the bytes of a file or of the text of an earlier case.
     fn begin_with(&mut self, texts: &Texts, rest: &str) -> Result<(), Trouble> {
         if rest.is_empty() {
             return Ok(());
@@ -274,7 +274,7 @@ impl Draft {
     }
 }
 
-/// Adds what a line says that isn't a line of the text or output itself.
+/// Adds what a line says that isn't itself a line of the text or output.
 fn push_piece(alloc: Global, out: &mut Vec<u8>, keyword: &str, rest: &str) -> Result<(), Trouble> {
     match keyword {
         "repeat" => push_repeated(alloc, out, rest),

@@ -33,7 +33,7 @@ fn kind_named(name: &str) -> Option<EventKind> {
         .map(|named| named.0)
 }
 
-/// The counts of the kinds that are named, each with its number after it; there are none of the others.
+/// The counts of the kinds that are named, each with its number after it; all other counts are 0.
 pub fn counts(text: &str) -> Result<[u64; 17], Trouble> {
     let mut counts = [0; 17];
     let mut named = None;

@@ -3,7 +3,7 @@ use crate::section::{behind, is_silent};
 use crate::trouble::{BadForm, Trouble};
 use std::alloc::Global;
 
-/// The rows for each of which a case stands, as lists of columns: one of no columns where there are no lines.
+/// The rows of a case, as lists of columns: a single row without columns if there are no lines.
 pub fn rows(alloc: Global, lines: &[&str]) -> Result<Vec<Vec<String>>, Trouble> {
     let Some((first, others)) = lines.split_first() else {
         return one_row(alloc);
@@ -81,7 +81,7 @@ pub fn filled(alloc: Global, line: &str, columns: &[String]) -> Result<String, T
     Ok(out)
 }
 
-/// Adds what follows a `$`, whose first byte is the number of a column.
+/// Adds a piece that follows a `$`; its first byte is the number of a column.
 fn push_filled(out: &mut String, piece: &str, columns: &[String]) -> Result<(), Trouble> {
     let mut rest = piece.chars();
     let column = match rest.next() {

@@ -7,7 +7,7 @@ use std::alloc::Global;
 /// What a line of a script says.
 #[derive(Clone, Copy)]
 pub enum Said {
-    /// An event comes, so many times.
+    /// An event comes, this many times.
     Comes(Event, u32),
     /// The event before it was the retirement of this load.
     Loads(LoadSeen),
@@ -15,7 +15,7 @@ pub enum Said {
     Word(WordId, u32),
 }
 
-/// A line of a script, and its place among the lines of its case.
+/// A line of a script, and its index among the lines of its case.
 #[derive(Clone, Copy)]
 pub struct ScriptLine {
     pub place: usize,
@@ -63,7 +63,7 @@ fn saying(words: &[&str]) -> Result<Said, Trouble> {
     }
 }
 
-/// The script's line that stands at a place.
+/// The line of a script at an index.
 pub fn script_line(alloc: Global, place: usize, line: &str) -> Result<ScriptLine, Trouble> {
     let said = saying(words(alloc, line)?.as_slice())?;
     Ok(ScriptLine { place, said })

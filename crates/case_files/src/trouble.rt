@@ -1,7 +1,7 @@
 use dn_base::Memory;
 use std::alloc::{AllocError, AllocFailed};
 
-/// How a line isn't of the form that it should be, or what a case lacks.
+/// How a line isn't of the required form, or what a case lacks.
 #[derive(Clone, Copy)]
 pub enum BadForm {
     NoKeyword,
@@ -66,11 +66,11 @@ impl BadForm {
 pub enum Trouble {
     /// It is of bad form.
     Form(BadForm),
-    /// There was no memory.
+    /// There wasn't enough memory.
     Memory,
 }
 
-/// The line of a case at which it turned out that it can't be run, counted from 0, and why.
+/// The line of a case, counted from 0, at which it was found that the case can't be run, and why.
 #[derive(Clone, Copy)]
 pub struct Stop {
     pub place: usize,

@@ -9,14 +9,14 @@ use std::str;
 
 /// What is done with the cases of the files.
 pub trait CaseRunner {
-    /// What holds of the types that a case is run with, as that threads may share them.
+    /// A condition on the types with which a case is run, such as that threads may share them.
     ghost can_run: { Type 0 };
 
     /// Runs a case, which the label names by its file, its line, its name and its columns.
     fn run(&mut self, alloc: Global, label: &str, case: &Case) -> Result<(), Stop>
         requires { can_run };
 
-    /// Notes that a line of a file isn't of the form that it should be.
+    /// Notes that a line of a file isn't of the required form.
     fn refuse(
         &mut self,
         alloc: Global,
@@ -70,7 +70,7 @@ pub fn run_all<C: CaseRunner>(alloc: Global, files: &[Named], runner: &mut C) ->
 }
 
 impl<C: CaseRunner> Walk<'_, C> {
-    /// Notes that a line isn't of the form that it should be.
+    /// Notes that a line isn't of the required form.
     fn refuse(&mut self, file: &str, line: usize, why: BadForm) -> Result<(), Memory> {
         self.runner.refuse(self.alloc, file, line, why)
     }
@@ -89,7 +89,7 @@ impl<C: CaseRunner> Walk<'_, C> {
         Ok(())
     }
 
-    /// Runs the case of a section, once or for each of its rows. A section without a case has nothing to say.
+    /// Runs the case of a section, once or for each of its rows. A section without a case is skipped.
     fn run_section(&mut self, file: &str, section: &Section<'_>) -> Result<(), Memory>
         requires { C.can_run }
     {

@@ -10,15 +10,15 @@ use Rattle.case_report.specs.declared.report.Report.{Report}
 abbrev pub IsAsWanted : Case → Written → Type 0
 IsAsWanted case got = (case.exit ≡ got.exit) × StandIn case.output.items got.bytes.items
 
--- one more case agrees, and nothing is said of it
+-- one more case agrees, and nothing is printed of it
 abbrev pub Agrees : Report → Report → Type 0
 Agrees old new = (new.agree ≡ raised old.agree) × (new.runs ≡ old.runs) × (new.times ≡ old.times) × (new.differ ≡ old.differ) × (new.lines ≡ old.lines)
 
--- one more run agrees with the flat machine, and nothing is said of it
+-- one more run agrees with the flat machine, and nothing is printed of it
 abbrev pub RunAgrees : Report → Report → Type 0
 RunAgrees old new = (new.agree ≡ old.agree) × (new.runs ≡ raised old.runs) × (new.times ≡ old.times) × (new.differ ≡ old.differ) × (new.lines ≡ old.lines)
 
--- the time of one more run is that of the slowest chain, and nothing is said of it
+-- the time of one more run is that of the slowest chain, and nothing is printed of it
 abbrev pub TimeAgrees : Report → Report → Type 0
 TimeAgrees old new = (new.agree ≡ old.agree) × (new.runs ≡ old.runs) × (new.times ≡ raised old.times) × (new.differ ≡ old.differ) × (new.lines ≡ old.lines)
 

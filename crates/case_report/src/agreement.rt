@@ -11,7 +11,7 @@ fn begins_a_line(bytes: &[u8], place: usize) -> bool
     place == 0 || bytes[place - 1] == b'\n'
 }
 
-/// Whether these parts stand in the bytes: the first at the front, the last at the end, and any lines between them.
+/// Whether the parts stand in the bytes: the first at the start, the last at the end, and any lines between them.
 pub fn stand_in(parts: &[Sequence<u8>], bytes: &[u8]) -> bool
     ensures { IsTrue result ↔ StandIn parts.now bytes.now }
 {

@@ -1,4 +1,4 @@
--- The claims of the multicore machine's runs.
+-- The claims of the runs of the multicore machine.
 use Rattle.std.specs.Prelude.{◌≡◌, ℕ, List, Ok, IfSome}
 use Rattle.rv_assembler.specs.Source.{source}
 use Rattle.message_net.specs.declared.event.Event.{Event}
@@ -12,10 +12,10 @@ use Rattle.claim_document.specs.declared.claim.Claim.{Claim}
 use Rattle.claim_document.specs.Claim.{IsClaimDocument}
 use Rattle.referee_top.specs.Answers.{HasTold}
 
--- what is claimed is true of a complete run of the machine of this setting, however its events were picked: of its grants, of the loads of
--- each task, where loads are claimed, and of the answer that is printed
+-- the claim is true of a complete run of the machine of this setting, however its events were picked: of its grants, of the
+-- loads of each task, if loads are claimed, and of the answer that is printed
 pub record IsClaimOf (C : Setting) (events : List Event) (c : Claim) : Type 0 where
-  -- the setting is that of a checked program, and plans, a shape and fuel of it
+  -- the setting is that of a checked program, with its plans, and a shape and fuel that fit it
   pub ready : IsReady C
   pub fuel : C.fuel ≡ c.question.fuel
   pub run : IsCompleteRun (initial_state C) events

@@ -20,15 +20,16 @@ use Rattle.dn_top.specs.Runs.{shape_for}
 
 -- ---- what is claimed
 
--- the claim tells what the record of a run on the machine of this setting tells: its grants, the loads of its events, task by task,
--- where loads are claimed, and the answer that is printed of its ending
+-- the claim tells what the record of a run on the machine of this setting tells: its grants; the loads of its events, task by
+-- task, if loads are claimed; and the printed answer of its ending
 pub record IsClaimOfRecord (C : Setting) (r : RunRecord) (c : Claim) : Type 0 where
   pub fuel : c.question.fuel ≡ C.fuel
   pub grants : c.grants ≡ r.grants
   pub loads : IfSome c.loads (λ (claimed : List TaskLoads). claimed ≡ all_loads (initial_state C) r.events)
   pub answer : c.answer ≡ answer_of r.ending
 
--- the claim is of this text, and tells what the record of a run of its program tells, on the machine of this shape with so much fuel
+-- the claim is about this text, and tells what the record of a run of its program tells, on the machine of this shape and with
+-- this fuel
 pub record IsClaimOfRunOf (text : List ℕ) (shape_of : ProgramParts → Shape) (fuel : ℕ) (r : RunRecord) (c : Claim) : Type 0 where
   pub asked : c.question.text ≡ text
   pub program : ProgramParts
@@ -39,7 +40,7 @@ pub record IsClaimOfRunOf (text : List ℕ) (shape_of : ProgramParts → Shape) 
 
 -- ---- what was run
 
--- the text, the machine and the fuel are those of the call; in the mode replay they are those that its document tells
+-- the text, the machine and the fuel are those of the call; in the mode replay they are those of its document
 abbrev pub claims_run_in : Mode → Options → List ℕ → RunRecord → Claim → Type 0
 claims_run_in mode.TheVariants.Replay o document r c = HasTrace document (λ t. IsClaimOfRunOf t.text (λ P. shape_told P t.shape) t.shape.fuel r c)
 claims_run_in m o text r c = IsClaimOfRunOf text (λ P. shape_for P o) o.fuel r c

@@ -1,4 +1,4 @@
-//! What the referee says of the claims of runs, as laws: functions that do nothing, whose contracts say it.
+//! Laws: what the referee says of the claims of runs. A law is a function without effect; its contract states the theorem.
 ghost use Rattle.std.specs.Prelude.{◌≡◌, ◌++◌, ℕ, true, List, is_some};
 ghost use Rattle.dn_base.specs.declared.ids.Shape.{Shape};
 ghost use Rattle.region_table.specs.Program.{ProgramParts};
@@ -24,19 +24,19 @@ ghost use Rattle.referee_top.specs.Answers.{HasTold, IsAnswer, verdict_reply};
 ghost use Rattle.claim_agreement.specs.Claims.{IsClaimOf, IsClaimOfRun};
 ghost use Rattle.claim_agreement.specs.HandedBack.{IsClaimOfRecord, claims_run_in, HandedBack};
 
-/// The claim of any complete run of the multicore machine agrees: its grants, the loads of its events, task by task, and its answer,
-/// whatever the shape of the machine, and in whatever order the events came. The judge says so of the claim, and the referee of its
+/// The claim of any complete run of the multicore machine agrees: its grants, the loads of its events, task by task, and its
+/// answer, for all shapes of the machine and all orders of events. The judge says so of the claim, and the referee of its
 /// document.
 pub fn the_claim_of_any_run_agrees()
     ensures verdict { (C : Setting) (events : List Event) (c : Claim) → IsClaimOf C events c → IsVerdict C.program c Agrees }
     ensures answer { (document : List ℕ) (out : Reply) → IsClaimOfRun document → IsAnswer Judge document out → out ≡ verdict_reply Agrees }
 {}
 
-/// The claim of any run of denovo agrees. A call of `dn_top::denovo_main` hands a run back in the modes run, work, trace, replay and
-/// time, by one worker or by several. Whoever claims of its text the grants of that run, the loads of its events, task by task, or
-/// nothing of loads, and the answer of its ending, is said to agree: by the judge (`verdict`), and by the referee of the claim's
-/// document (`answer`). There is such a claim, with all loads (`claimed`), and its answer is what the mode run prints first (`printed`).
-/// The clause `run` says the same of each run that dn_top's `IsRunOf` is true of.
+/// The claim of any run of denovo agrees. A call of `dn_top::denovo_main` hands a run back in the modes run, work, trace,
+/// replay and time, with one worker or several. Take a claim about its text with the grants of that run, the loads of its
+/// events, task by task, or no loads, and the answer of its ending. The judge says that it agrees (`verdict`), and so does the
+/// referee of the claim's document (`answer`). There is such a claim, with all loads (`claimed`), and its answer is what the
+/// mode run prints first (`printed`). The clause `run` says the same of each run of which dn_top's `IsRunOf` is true.
 pub fn the_claim_of_any_run_of_denovo_agrees()
     ensures run { (P : ProgramParts) (machine : Shape) (fuel : ℕ) (r : RunRecord) (C : Setting) (c : Claim) → IsRunOf P machine fuel r → IsSettingOf P machine fuel C → IsClaimOfRecord C r c
         → IsVerdict P c Agrees }

@@ -1,4 +1,4 @@
--- What the program answers to options and a text.
+-- The program's answer to options and a text.
 use Rattle.std.specs.Prelude.{◌≡◌, ◌⊎◌, ℕ, Bool, true, false, List, ◌++◌, Option, Some, None, Result, Ok, Err}
 use Rattle.dn_base.specs.declared.ids.Grant.{Grant}
 use Rattle.dn_base.specs.declared.status.Status.{Status}
@@ -36,8 +36,8 @@ use Rattle.dn_top.specs.Documents.{IsTracedRun, HasTrace, IsNoDocument, IsReplay
 abbrev pub answered : Status → List ℕ → Output
 answered status bytes = record { status = status; bytes = bytes; run = None }
 
--- a program's run on one flat memory by the least list of grants, printed as its answer and the grants; where it is out of fuel or
--- stuck, its tasks are the cause
+-- the run of a program on one flat memory by the least list of grants, printed as its answer and the grants; if it is out of
+-- fuel or stuck, its tasks are the cause
 pub record IsFlatRun (program : ProgramParts) (fuel : ℕ) (out : Output) : Type 0 where
   pub grants : List Grant
   pub least : IsLeast program fuel grants
@@ -46,12 +46,12 @@ pub record IsFlatRun (program : ProgramParts) (fuel : ℕ) (out : Output) : Type
   pub caused : IsCaused program fuel grants end.ending
   pub answer : out ≡ answered (status_of end.ending.outcome) (answer_of end.ending ++ grant_lines grants)
 
--- the program's listing, which is a text of just this program, if it is within the limits of a text
+-- the program's listing; if it is within the limits of a text, it is a text of exactly this program
 pub record IsListing (program : ProgramParts) (out : Output) : Type 0 where
   pub answer : out ≡ answered status.TheVariants.Done (listing_of program)
   pub again : FitsSourceLimits (listed_lines program) → source (listing_of program) ≡ Ok program
 
--- what the prover says of the program's effects; where it says that they are kept, no run ends a task by a trap outside
+-- what the prover says of the program's effects; if it says that they are kept, no run ends a task by the trap `outside`
 pub record IsProof (program : ProgramParts) (out : Output) : Type 0 where
   pub proved : Proved
   pub right : IsProversAnswer program proved
@@ -64,14 +64,14 @@ pub record IsProof (program : ProgramParts) (out : Output) : Type 0 where
 abbrev pub IsReplayed : List ℕ → Output → Type 0
 IsReplayed document out = HasTrace document (λ t. HasChecked t.text (λ P. IsReplayedRun P t out))
 
--- the bytes are no document, or its text has no program that could be run, or its events are no complete run; the line says why
+-- the bytes are no document, or its text has no program that may be run, or its events are no complete run; the line says why
 abbrev pub IsRefusedDocument : List ℕ → List ℕ → Type 0
 IsRefusedDocument document line =
     IsNoDocument document line ⊎ HasTrace document (λ t. IsUnfit t.text line ⊎ HasChecked t.text (λ P. IsNoRun P t line))
 
 -- ---- the run of a text
 
--- r is a run of the text's checked program on the machine that the options ask for, picked as they ask
+-- r is a run of the text's checked program on the machine that the options ask for, with its events picked as they ask
 abbrev pub IsRunOfText : Options → List ℕ → RunRecord → Type 0
 IsRunOfText o text r = HasChecked text (λ P. IsRunFor P o r)
 
@@ -105,7 +105,7 @@ refused_in mode.TheVariants.Replay text line = IsRefusedDocument text line
 refused_in mode.TheVariants.Time text line = IsUnfit text line
 refused_in mode.TheVariants.Prove text line = IsUnfit text line
 
--- how many bytes each mode reads at most: one more than its text or its document may have; None where it generates its text
+-- how many bytes each mode reads at most: one more than its text or document may have; None for a mode that generates its text
 abbrev pub most_read : Mode → Option ℕ
 most_read mode.TheVariants.Run = Some 1048577
 most_read mode.TheVariants.Work = None
@@ -117,7 +117,7 @@ most_read mode.TheVariants.Replay = Some 536870913
 most_read mode.TheVariants.Time = Some 1048577
 most_read mode.TheVariants.Prove = Some 1048577
 
--- whether the events of a mode's run are picked, by the seed or by the workers, and not read in a document
+-- whether the events of a mode's run are picked, by the seed or by the workers, and not read from a document
 abbrev pub picks_events : Mode → Bool
 picks_events mode.TheVariants.Run = true
 picks_events mode.TheVariants.Work = true
@@ -141,7 +141,7 @@ makes_run mode.TheVariants.Replay = true
 makes_run mode.TheVariants.Time = true
 makes_run mode.TheVariants.Prove = false
 
--- whether a mode runs the program's tasks; where it doesn't its one outcome is Done
+-- whether a mode runs the program's tasks; if it doesn't, its only outcome is Done
 abbrev pub runs_tasks : Mode → Bool
 runs_tasks mode.TheVariants.Run = true
 runs_tasks mode.TheVariants.Work = true
@@ -155,7 +155,7 @@ runs_tasks mode.TheVariants.Prove = false
 
 -- ---- answers
 
--- the output that something done comes to: a refusal is its line, and where there was no memory there is none
+-- the output of a result: a refusal is its line, and out of memory has no output
 abbrev pub IsOutputOf : Result Output Stop → Output → Type 0
 IsOutputOf (Ok done) out = out ≡ done
 IsOutputOf (Err (stop.TheVariants.Refused line)) out = out ≡ answered status.TheVariants.SourceRefused line

@@ -12,15 +12,15 @@ use Rattle.flat_machine.specs.Phases.{Flat, all_tasks}
 use Rattle.flat_machine.specs.Grants.{so_far}
 use Rattle.flat_machine.specs.Laws.{IsOutOfFuel, IsHeldUp}
 
--- the task is one of the last phase that began, and wants a lock that another task of that phase holds
+-- the task is one of the current phase, and wants a lock that another task of the phase holds
 pub record StandsHeldUp (program : ProgramParts) (fuel : ℕ) (machine : Flat) (r : Started) : Type 0 where
   pub place : ℕ
   pub there : slice_get machine.tasks place ≡ Some r
   pub held_up : IsHeldUp program fuel machine.tasks place r
 
--- where a run by these grants is out of fuel some task is, after just as many instructions as it may retire, and none trapped or
--- waits; each started task that hasn't ended wants a lock that another task of its phase holds; and where the run is stuck some
--- task waits
+-- the tasks are the cause of how a run by these grants ends. If it is out of fuel, some task has retired exactly as many
+-- instructions as it may, and none trapped or waits. Each started task that hasn't ended wants a lock that another task of its
+-- phase holds. If the run is stuck, some task waits
 pub record IsCaused (program : ProgramParts) (fuel : ℕ) (grants : List Grant) (ending : Ending) : Type 0 where
   pub spent : ending.outcome ≡ outcome.TheVariants.Fuel → IsOutOfFuel fuel ending.tasks
   pub machine : Flat

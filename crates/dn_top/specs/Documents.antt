@@ -1,4 +1,4 @@
--- The document of a run, as it is written, and a document's run, as it is made once more.
+-- The document of a run, as it is written; and the run of a document, as it is replayed.
 use Rattle.std.specs.Prelude.{◌≡◌, ℕ, List}
 use Rattle.dn_base.specs.declared.ids.Shape.{Shape}
 use Rattle.region_table.specs.Program.{ProgramParts, cores_of}
@@ -19,7 +19,7 @@ use Rattle.dn_top.specs.Runs.{IsRunOf, IsRunFor, output_of_run, reported}
 
 -- ---- the document of a run
 
--- what the document of a run of a text's program tells: the machine's size and the fuel are those of the options
+-- what the document of a run tells of the machine's size and the fuel: those of the options
 abbrev pub sizes_of : Options → TraceShape
 sizes_of o = record { banks = o.banks; sets = o.sets; ways = o.ways; fuel = o.fuel }
 
@@ -30,7 +30,7 @@ trace_of o text r = record { shape = sizes_of o; text = text; events = r.events 
 pub record IsTracedRun (P : ProgramParts) (o : Options) (text : List ℕ) (out : Output) : Type 0 where
   pub run : RunRecord
   pub is : IsRunFor P o run
-  -- all that it tells is within the limits of a document, so that the bytes are the document of nothing else
+  -- everything that it tells is within the limits of a document, so the bytes are the document of nothing else
   pub told : IsTrace (trace_of o text run)
   pub answer : out ≡ output_of_run (document_of (trace_of o text run)) run
 
@@ -48,11 +48,11 @@ pub record IsNoDocument (bytes line : List ℕ) : Type 0 where
   pub is : HasFault bytes fault
   pub says : line ≡ refusal_text (refusal.TheVariants.Fault fault)
 
--- the machine of a program in the size that a document tells
+-- the machine of a program with the size that a document tells
 abbrev pub shape_told : ProgramParts → TraceShape → Shape
 shape_told P s = record { cores = cores_of P; banks = s.banks; sets = s.sets; ways = s.ways }
 
--- a replay of a document's events on its machine gives this
+-- the replay of a document's events on its machine gives this result
 abbrev pub IsReplayIn : ProgramParts → Trace → Replayed → Type 0
 IsReplayIn P t r = IsReplayOf P (shape_told P t.shape) t.shape.fuel t.events r
 
@@ -68,14 +68,14 @@ pub record IsReplayedRun (P : ProgramParts) (t : Trace) (out : Output) : Type 0 
   pub told : IsRunTold P t run
   pub answer : out ≡ output_of_run (reported run) run
 
--- the line that refuses events whose replay gives this; none refuses a complete run
+-- the line that refuses events with this replay; a complete run isn't refused
 abbrev pub refused_by : Replayed → List ℕ → Type 0
 refused_by (Complete ending grants counts) line = ⊥
 refused_by (NotEnabled number) line = line ≡ refusal_text (refusal.TheVariants.NotEnabled number)
 refused_by Incomplete line = line ≡ refusal_text refusal.TheVariants.Incomplete
 
--- the document's events are no complete run of its machine: the line names the first that may not come, or says that others may
--- come after them
+-- the document's events are no complete run of its machine: the line names the first event that may not come, or says that
+-- another event may come after them
 pub record IsNoRun (P : ProgramParts) (t : Trace) (line : List ℕ) : Type 0 where
   pub replayed : Replayed
   pub is : IsReplayIn P t replayed

@@ -1,4 +1,4 @@
--- What a call of the whole program ends with.
+-- How a call of the whole program ends.
 use Rattle.std.specs.Prelude.{Option}
 use Rattle.std.specs.declared.process.ExitCode.{ExitCode}
 use Rattle.command_words.specs.declared.options.Options.{Options}

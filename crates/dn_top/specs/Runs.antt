@@ -37,66 +37,67 @@ shape_for P o = record { cores = cores_of P; banks = o.banks; sets = o.sets; way
 
 -- ---- one thread on one memory
 
--- the flat machine's run by the grants of r has an end: its loads are those of r's events, task by task, and its ending, which
--- is the memory, the ends of the tasks and the outcome, is that of r
+-- the flat machine's run by the grants of r has an end. Its loads are those of r's events, task by task. Its ending, that is
+-- the memory, the ends of the tasks and the outcome, is that of r
 pub record HasFlatRun (C : Setting) (r : RunRecord) : Type 0 where
   pub end' : FlatEnd
   pub value : flat_end C.program C.fuel r.grants ≡ Some end'
   pub loads : end'.loads ≡ all_loads (initial_state C) r.events
   pub ending : end'.ending ≡ r.ending
 
--- how the flat machine's run by no grants ends: nothing but the program and the fuel decides it
+-- how the flat machine's run without grants ends: a function of the program and the fuel
 abbrev pub ending_alone : ProgramParts → ℕ → Option Ending
 ending_alone P fuel = option_map (λ (e : FlatEnd). e.ending) (flat_end P fuel [])
 
--- r has no grants, and ends as the flat machine's run by none
+-- r has no grants, and ends as the flat machine's run without grants
 pub record IsWithoutGrants (P : ProgramParts) (fuel : ℕ) (r : RunRecord) : Type 0 where
   pub grants : r.grants ≡ []
   pub ending : ending_alone P fuel ≡ Some r.ending
 
 -- ---- a run
 
--- r is a run of the program P on the machine of this shape, whose tasks have so much fuel
+-- r is a run of the program P on the machine of this shape, whose tasks may retire `fuel` instructions
 pub record IsRunOf (P : ProgramParts) (shape : Shape) (fuel : ℕ) (r : RunRecord) : Type 0 where
-  -- what the machine is told; a program, a shape and fuel have one such setting
+  -- the setting; a program, a shape and a fuel have exactly one
   pub setting : Setting
   pub setting_is : IsSettingOf P shape fuel setting
-  -- its events are a complete run of the initial machine, at rest after it, coherent after each of them, whose loads are fronts
-  -- of one thread's; and its grants, counts and ending are read off them
+  -- its events are a complete run of the initial machine, which is at rest after it. After each event the state is coherent,
+  -- and the loads are prefixes of those of one thread. The grants, counts and ending are read off the events
   pub machine : IsCoherentRun (initial_state setting) r
   -- there is a count of each of the seventeen kinds of event
   pub each_kind : length r.counts.kinds ≡ 17
-  -- one thread on one memory that takes the critical sections in the order of its grants loads the same and ends the same
+  -- one thread on one memory, which takes the critical sections in the order of the grants, has the same loads and the same end
   pub flat : HasFlatRun setting r
-  -- where it is out of fuel or stuck, its tasks are the cause
+  -- if it is out of fuel or stuck, its tasks are the cause
   pub caused : IsCaused P fuel r.grants r.ending
-  -- without locks the program and the fuel alone decide how it ends
+  -- without locks, how it ends depends only on the program and the fuel
   pub lock_free : P.locks ≡ [] → IsWithoutGrants P fuel r
 
 -- r is a run on the machine that the options ask for, however its events were picked
 abbrev pub IsAnyRunFor : ProgramParts → Options → RunRecord → Type 0
 IsAnyRunFor P o r = IsRunOf P (shape_for P o) o.fuel r
 
--- r is such a run; by one worker it is the one of the options' seed, whose words picked its events, and by more the host decides
--- which event comes first
+-- r is such a run. With one worker the words of the options' seed pick its events; with more workers the host decides which
+-- event comes first
 pub record IsRunFor (P : ProgramParts) (o : Options) (r : RunRecord) : Type 0 where
   pub run : IsAnyRunFor P o r
   pub scheduled : o.workers ≡ 1 → IsScheduled (initial_state run.setting) o.seed r.events
 
 -- ---- its output
 
--- the output that hands a run back with these words: its status is that of the outcome
+-- the output that hands a run back with these bytes; its status is that of the outcome
 abbrev pub output_of_run : List ℕ → RunRecord → Output
 output_of_run bytes run = record { status = status_of run.ending.outcome; bytes = bytes; run = Some run }
 
--- a run is printed as its answer, its grants and its counts, or summed up
+-- a run printed as its answer, its grants and its counts; or only summed up
 abbrev pub reported : RunRecord → List ℕ
 reported r = report_of r.ending r.grants r.counts
 
 abbrev pub summed_up : RunRecord → List ℕ
 summed_up r = summary_of r.ending
 
--- the program was run: the output hands the run back, says it in these words, and has the status of its outcome
+-- the program was run. The output hands the run back, its bytes are what `print` makes of the run, and its status is that of
+-- the outcome
 pub record IsPrintedRun (P : ProgramParts) (o : Options) (print : RunRecord → List ℕ) (out : Output) : Type 0 where
   pub run : RunRecord
   pub is : IsRunFor P o run
@@ -104,12 +105,12 @@ pub record IsPrintedRun (P : ProgramParts) (o : Options) (print : RunRecord → 
 
 -- ---- its timing
 
--- the ticks that options give to the kinds of event: those of a core's own, those that a bank handles, and all others
+-- the ticks that the options give to the kinds of event: a core's own, those that a bank handles, and all others
 abbrev pub ticks_for : Options → Ticks
 ticks_for o = ticks_by o.tick_core o.tick_bank o.tick_mail
 
--- a run of the program on the machine of this shape was timed by these ticks: the output hands the run back, sums it up, and then
--- tells its longest chain of events
+-- a run of the program on the machine of this shape was timed with these ticks. The output hands the run back, sums it up, and
+-- then tells its longest chain of events
 pub record IsTimed (P : ProgramParts) (shape : Shape) (fuel : ℕ) (ticks : Ticks) (run : RunRecord) (out : Output) : Type 0 where
   -- an event of each kind takes 1 to 1,000,000 ticks
   pub limits : AreWithinLimits ticks
@@ -126,7 +127,7 @@ pub record IsTimedRun (P : ProgramParts) (o : Options) (out : Output) : Type 0 w
   pub is : IsRunFor P o run
   pub timed : IsTimedFor P o run out
 
--- a run that has no more words, tasks and events than can be printed
+-- a run with no more words, tasks and events than can be printed
 pub record IsPrintable (r : RunRecord) : Type 0 where
   pub words : length r.ending.memory ≤ 65536
   pub tasks : length r.ending.tasks ≤ 64

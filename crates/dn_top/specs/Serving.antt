@@ -32,12 +32,12 @@ text_by (Some most) size content = content
 abbrev pub text_to_answer : Options → SourceState → Option (List ℕ)
 text_to_answer o source = text_by (most_read o.mode) o.size source.bytes
 
--- the source was left alone where the text is generated, and else read to its end
+-- the source was left alone if the text is generated, and otherwise read to its end
 abbrev pub read_by : Option ℕ → SourceState → SourceState → Type 0
 read_by None before after = IsUntouched before after
 read_by (Some most) before after = after.bytes ≡ Some []
 
--- options are wanted, and this holds of them and their text, where the source tells it
+-- options are given, and this holds of them and their text, if the source tells it
 pub record ForText (wanted : Option Options) (source : SourceState) (Holds : Options → List ℕ → Type 0) : Type 0 where
   pub options : Options
   pub asked : wanted ≡ Some options
@@ -45,8 +45,8 @@ pub record ForText (wanted : Option Options) (source : SourceState) (Holds : Opt
 
 -- ---- what a status says of a text
 
--- of an outcome's status: what the options ask for was done with the text's program, the source was read as the mode wants
--- it, the sink took exactly the output, and the answer has the output's status and its run
+-- for the status of an outcome: what the options ask for was done with the text's program; the source was read as the mode
+-- requires; the sink took exactly the output; and the answer has the output's status and its run
 pub record HasDone (o : Options) (before after : Devices) (text : List ℕ) (answer : Answer) : Type 0 where
   pub out : Output
   pub done : IsDone o text out
@@ -55,31 +55,31 @@ pub record HasDone (o : Options) (before after : Devices) (text : List ℕ) (ans
   pub ends : answer.status ≡ out.status
   pub run : answer.run ≡ out.run
 
--- of a refusal: the text has a fault or its program has, and the sink took the line of the first one
+-- for a refusal: the text or its program has a fault, and the sink took the line of the first one
 pub record HasRefused (o : Options) (before after : Devices) (text : List ℕ) : Type 0 where
   pub out : Output
   pub refusal : IsRefusal o text out
   pub took : Took before.sink after.sink out.bytes
 
--- of a sink that failed: it took a prefix of the answer
+-- for a failed sink: it took a prefix of the answer
 pub record HasFailed (o : Options) (before after : Devices) (text : List ℕ) : Type 0 where
   pub out : Output
   pub answer : IsAnswer o text out
   pub front : TookFront before.sink after.sink out.bytes
 
--- the text has an answer whose status this is
+-- the text has an answer with this status
 pub record HasStatus (o : Options) (text : List ℕ) (s : Status) : Type 0 where
   pub out : Output
   pub answer : IsAnswer o text out
   pub ends : s ≡ out.status
 
--- a sink that failed took a prefix of the line that refuses the words, or of the answer to the text that they ask for
+-- a failed sink took a prefix of the line that refuses the words, or of the answer to the text that they ask for
 abbrev pub has_stopped : Option Options → Devices → Devices → Type 0
 has_stopped None before after = TookFront before.sink after.sink usage_line
 has_stopped (Some o) before after = IfSome (text_to_answer o before.source) (HasFailed o before after)
 
--- r is a run of the program on the machine that the options ask for, by one worker the one of their seed; in the mode replay a
--- document tells how large the machine is, and which events come
+-- r is a run of the program on the machine that the options ask for, with one worker the run of their seed. In the mode replay
+-- a document tells the size of the machine and the events
 abbrev pub is_run_in : Mode → ProgramParts → Options → RunRecord → Type 0
 is_run_in mode.TheVariants.Replay P o r = (s : TraceShape) × IsTraceShape s × IsRunOf P (shape_told P s) s.fuel r
 is_run_in m P o r = IsRunFor P o r
@@ -91,8 +91,8 @@ pub record IsRunWithStatus (m : Mode) (o : Options) (s : Status) (r : RunRecord)
   pub run : is_run_in m program o r
   pub ends : s ≡ status_of r.ending.outcome
 
--- of an outcome's status: a run is handed back exactly in the modes that make one, and it is one that the mode makes; and where no
--- task is run the outcome is Done
+-- for the status of an outcome: a run is handed back exactly in the modes that make one, and it is a run that the mode makes.
+-- If no task is run, the outcome is Done
 pub record HandsBack (o : Options) (answer : Answer) : Type 0 where
   pub comes : is_some answer.run ≡ makes_run o.mode
   pub run : IfSome answer.run (IsRunWithStatus o.mode o answer.status)
@@ -102,43 +102,43 @@ pub record HandsBack (o : Options) (answer : Answer) : Type 0 where
 abbrev pub IsOutcomeOrRefusal : Status → Type 0
 IsOutcomeOrRefusal s = IsOutcome s ⊎ ((s ≡ status.TheVariants.Usage) ⊎ (s ≡ status.TheVariants.SourceRefused))
 
--- how many bytes the program reads at most: None where the words are refused or their mode generates its text
+-- how many bytes the program reads at most; None if the words are refused or their mode generates its text
 abbrev pub most_asked : Option Options → Option ℕ
 most_asked wanted = option_and_then (λ (o : Options). most_read o.mode) wanted
 
 -- ---- a call
 
--- what a call says by its answer, where the devices were `before` and are `after`, and these options are wanted; None where the
--- words aren't the command's
+-- what a call promises by its answer. The devices were `before` and are `after`. `wanted` are the options that the words ask
+-- for, or None if the command doesn't take the words
 pub record Serves (wanted : Option Options) (before after : Devices) (answer : Answer) : Type 0 where
-  -- an outcome comes only where what the words ask for was done with the text, and all of the answer was written
+  -- an outcome comes only if what the words ask for was done with the text, and all of the answer was written
   pub done : IsOutcome answer.status → ForText wanted before.source (λ o text. HasDone o before after text answer)
-  -- there a run is handed back exactly in the modes that make one, also where the source doesn't tell its text
+  -- then a run is handed back exactly in the modes that make one, even if the source doesn't tell its text
   pub handed_back : IsOutcome answer.status → IfSome wanted (λ o. HandsBack o answer)
   -- with any other status no run is handed back
   pub no_run : ¬ IsOutcome answer.status → answer.run ≡ None
-  -- Usage comes only where the words aren't the command's, and the line that says so was written
+  -- Usage comes only if the command doesn't take the words, and the line that says so was written
   pub usage : answer.status ≡ status.TheVariants.Usage → (wanted ≡ None) × Took before.sink after.sink usage_line
-  -- and it comes there, unless the sink failed or there was no memory
+  -- and it comes then, unless the sink failed or there was no memory
   pub usage_comes : wanted ≡ None → (answer.status ≡ status.TheVariants.Usage)
       ⊎ ((answer.status ≡ status.TheVariants.Memory) ⊎ ((answer.status ≡ status.TheVariants.WriteFault) × SinkFailed before.sink after.sink))
-  -- SourceRefused comes only where the mode refuses the text, and the line of its first fault was written
+  -- SourceRefused comes only if the mode refuses the text, and the line of the text's first fault was written
   pub refused : answer.status ≡ status.TheVariants.SourceRefused → ForText wanted before.source (λ o text. HasRefused o before after text)
-  -- ReadFault comes only where the source failed; the sink was left alone
+  -- ReadFault comes only if the source failed; the sink was left alone
   pub read_fault : answer.status ≡ status.TheVariants.ReadFault → SourceFailed before.source after.source × IsUntouched before.sink after.sink
-  -- WriteFault comes only where the sink failed; it took a prefix of what was to be written
+  -- WriteFault comes only if the sink failed; it took a prefix of what was to be written
   pub write_fault : answer.status ≡ status.TheVariants.WriteFault → SinkFailed before.sink after.sink × has_stopped wanted before after
-  -- where there was no memory the sink was left alone
+  -- if there was no memory, the sink was left alone
   pub memory : answer.status ≡ status.TheVariants.Memory → IsUntouched before.sink after.sink
-  -- a source whose count of faults rose gives ReadFault: with every other status the count is as it was
+  -- if the source's count of faults rose the status is ReadFault: with any other status the count is as before
   pub source_faultless : answer.status ≢ status.TheVariants.ReadFault → after.source.faults ≡ before.source.faults
-  -- a sink whose count of faults rose gives WriteFault: with every other status the count is as it was
+  -- if the sink's count of faults rose the status is WriteFault: with any other status the count is as before
   pub sink_faultless : answer.status ≢ status.TheVariants.WriteFault → after.sink.faults ≡ before.sink.faults
-  -- after every outcome and every refusal all that the sink took has been flushed, where it tells that
+  -- after every outcome and every refusal all that the sink took is flushed, if the sink tells that
   pub flushed : IsOutcomeOrRefusal answer.status → IsFlushed after.sink
-  -- the source is left alone where the words are refused, and in a mode that generates its text
+  -- the source is left alone if the words are refused, or their mode generates its text
   pub unread : most_asked wanted ≡ None → IsUntouched before.source after.source
-  -- and never gives more than one byte past the most that a text, or in the mode replay a document, may have
+  -- otherwise it gives at most one byte more than a text may have, or in the mode replay a document
   pub few : IfSome (most_asked wanted) (GaveAtMost before.source after.source)
   -- options and a text that the source tells have their answer's status, unless a device failed or there was no memory
   pub complete : (o : Options) → wanted ≡ Some o → (text : List ℕ) → text_to_answer o before.source ≡ Some text
@@ -147,19 +147,19 @@ pub record Serves (wanted : Option Options) (before after : Devices) (answer : A
 
 -- ---- its parts
 
--- the status where there is no text
+-- the status if there is no text
 abbrev pub status_of_read : ReadError → Status
 status_of_read reading.TheVariants.Failed = status.TheVariants.ReadFault
 status_of_read reading.TheVariants.NoMemory = status.TheVariants.Memory
 
--- the answer of an output that was written, and one that is a status alone
+-- the answer of an output that was written, and one that is only a status
 abbrev pub answer_to : Output → Answer
 answer_to out = record { status = out.status; run = out.run }
 
 abbrev pub without_run : Status → Answer
 without_run s = record { status = s; run = None }
 
--- the output was delivered and the answer is its status and run, or the sink failed and took a prefix of its bytes
+-- the output was delivered and the answer has its status and run; or the sink failed and took a prefix of its bytes
 abbrev pub IsWritten : SinkState → SinkState → Output → Answer → Type 0
 IsWritten before after out answer =
     ((answer ≡ answer_to out) × Delivered before after out.bytes)
@@ -187,7 +187,7 @@ obtained_by (Some most) size before after text = IsRead before after most text
 abbrev pub IsObtained : Options → SourceState → SourceState → List ℕ → Type 0
 IsObtained o before after text = obtained_by (most_read o.mode) o.size before after text
 
--- the text was taken and replied to
+-- the text was obtained and answered
 pub record IsServed (o : Options) (before after : Devices) (answer : Answer) : Type 0 where
   pub text : List ℕ
   pub taken : IsObtained o before.source after.source text
@@ -205,6 +205,6 @@ pub record IsUnheld (before after : Devices) (answer : Answer) : Type 0 where
   pub faultless : after.source.faults ≡ before.source.faults
   pub untouched : IsUntouched before.sink after.sink
 
--- a call that was given options ended: their text was replied to, or there was none
+-- a call with options ended: their text was answered, or there was none
 abbrev pub IsDoneBy : Options → Devices → Devices → Answer → Type 0
 IsDoneBy o before after answer = IsServed o before after answer ⊎ (IsUnread before after answer ⊎ IsUnheld before after answer)

@@ -52,7 +52,7 @@ fn list(alloc: Global, program: &Program) -> Result<Output, Memory>
     Ok(ended(Outcome::Done, listing(alloc, program)?))
 }
 
-/// Says whether any run of a program may reach outside its effects.
+/// Says whether some run of the program may access a word outside its declared effects.
 fn prove_effects(alloc: Global, checked: &Checked) -> Result<Output, Memory>
     ensures { IfOk result (IsProof checked.now) }
 {
@@ -85,7 +85,7 @@ fn done_alone(alloc: Global, options: &Options, text: &[u8]) -> Result<Output, S
     }
 }
 
-/// What each mode does with a text where several workers are asked for: they make the run of a mode that picks its events.
+/// What each mode does with a text if several workers are asked for: these make the run in the modes that pick events.
 fn done_by_workers<R: Threads + Wait + Sync, G: Gate + Sync>(
     rt: &R,
     alloc: Global,
@@ -115,10 +115,10 @@ fn done_by_workers<R: Threads + Wait + Sync, G: Gate + Sync>(
     }
 }
 
-/// The output of what was done.
+/// The output of a result.
 ///
 /// # Errors
-/// `Memory` where there was no room.
+/// `Memory` if there was no room.
 fn output_from(done: Result<Output, Stop>) -> Result<Output, Memory>
     ensures { IfOk result (IsOutputOf done) }
 {

@@ -51,7 +51,7 @@ pub(crate) fn trace_run(
     Ok(handed_back(document, run))
 }
 
-/// The refusal of a document for this fault, which isn't out of memory: `Refused` with its line, or `Memory` where there is no
+/// The refusal of a document for this reason, which isn't out of memory: `Refused` with its line, or `Memory` if there is no
 /// room for that.
 fn refused_trace(alloc: Global, why: &TraceRefusal) -> Stop
     requires { why.now ≢ OfFault NoMemory }
@@ -78,7 +78,7 @@ pub fn trace_in(alloc: Global, document: &[u8]) -> Result<Trace, Stop>
     }
 }
 
-/// The machine of a program, in the size that a document tells.
+/// The shape of a program's machine, in the size that a document tells.
 pub fn shape_told(sizes: TraceShape, program: &Program) -> Shape
     ensures { result ≡ shape_told program.now sizes }
 {
@@ -90,12 +90,12 @@ pub fn shape_told(sizes: TraceShape, program: &Program) -> Shape
     }
 }
 
-/// The run that a document tells: its events are made once more on the machine of the document's checked program.
+/// The run of a document: its events are made again on the machine of the document's checked program.
 ///
-/// The run has few words, tasks and events, so that it can be printed.
+/// The run has few enough words, tasks and events to be printed.
 ///
 /// # Errors
-/// `Refused` with the line that says why the events are no complete run, and `Memory` where there is no room.
+/// `Refused` with the line that says why the events are no complete run, and `Memory` if there is no room.
 pub fn run_told(alloc: Global, trace: Trace, checked: Checked) -> Result<RunRecord, Stop>
     requires { IsTrace trace }
     ensures told { IfOk result (IsRunTold checked trace) }
@@ -125,7 +125,7 @@ pub fn run_told(alloc: Global, trace: Trace, checked: Checked) -> Result<RunReco
     }
 }
 
-/// Makes the events of a document once more, and reports the run.
+/// Makes the events of a document again, and reports the run.
 fn run_again(alloc: Global, trace: Trace, checked: Checked) -> Result<Output, Stop>
     requires { IsTrace trace }
     ensures ok { IfOk result (IsReplayedRun checked trace) }
@@ -135,8 +135,8 @@ fn run_again(alloc: Global, trace: Trace, checked: Checked) -> Result<Output, St
     Ok(report_run(alloc, run)?)
 }
 
-/// Takes a document, and makes its run once more: the first that is wrong refuses it, of the bytes, of the text that they tell,
-/// and of the events.
+/// Takes a document, and makes its run again. The first fault refuses it: of the bytes, of the text that they tell, or of the
+/// events.
 pub(crate) fn replay_document(alloc: Global, document: &[u8]) -> Result<Output, Stop>
     ensures ok { IfOk result (IsReplayed document.now) }
     ensures stop { IfErr result (IsStop (IsRefusedDocument document.now)) }

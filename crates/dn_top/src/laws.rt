@@ -1,4 +1,4 @@
-//! What holds of every run, as laws: functions that do nothing, whose contracts say it.
+//! Laws: what holds of every run. A law is a function without effect; its contract states the theorem.
 ghost use Rattle.std.specs.Prelude.{◌≡◌, ℕ, List, [], Some, Ok};
 ghost use Rattle.dn_base.specs.declared.ids.Grant.{Grant};
 ghost use Rattle.dn_base.specs.declared.ids.Shape.{Shape};
@@ -15,25 +15,26 @@ ghost use Rattle.dn_top.specs.Causes.{IsCaused};
 ghost use Rattle.dn_top.specs.Laws.{Call, GaveOneOutput, IsTextAnswered, IsDecided, IsProvedInside, IsTameRun};
 ghost use Rattle.dn_top.specs.Runs.{IsRunFor, IsRunOf, output_of_run, reported};
 
-/// A run that is out of fuel or stuck is so because of its tasks.
+/// If a run is out of fuel or stuck, its tasks are the cause.
 pub fn an_outcome_has_its_cause()
     ensures { (P : ProgramParts) (fuel : ℕ) (grants : List Grant) (end : FlatEnd)
         → flat_end P fuel grants ≡ Some end → IsCaused P fuel grants end.ending }
 {}
 
-/// Without locks every run of a program ends alike, whatever the shape of the machine and however the events were picked.
+/// Without locks every run of a program ends in the same way, for all shapes of the machine, and however the events were
+/// picked.
 pub fn without_locks_every_run_ends_alike()
     ensures { (P : ProgramParts) (machine other : Shape) (fuel : ℕ) (r s : RunRecord) → IsRunOf P machine fuel r → IsRunOf P other fuel s → P.locks ≡ [] → r.ending ≡ s.ending }
 {}
 
-/// Once the mode prove has answered a text with `proved inside`, no run of its program has a task that ended by a trap outside:
-/// whatever the shape of the machine and the fuel, and however the events were picked, a seed, workers or a document.
+/// If the mode prove has answered `proved inside` to a text, no run of its program has a task that ended by the trap `outside`:
+/// for all shapes of the machine and all fuels, and however the events were picked, by a seed, by workers or from a document.
 pub fn a_proven_text_runs_inside()
     ensures { (text : List ℕ) (P : ProgramParts) (machine : Shape) (fuel : ℕ) (r : RunRecord) → IsProvedInside text → source text ≡ Ok P → IsRunOf P machine fuel r → IsTameRun r }
 {}
 
-/// What the mode trace writes of a text's run is answered by the mode replay with the report of that run, and its status; by one
-/// worker that is how the mode run answers the text, with its bytes, its status and its run.
+/// The mode replay answers the document that the mode trace writes of a text's run with the report of that run, and its status.
+/// With one worker that is the answer of the mode run to the text: the same bytes, status and run.
 pub fn a_trace_replays_as_its_run()
     ensures report { (o p : Options) (text : List ℕ) (document : Output) (run : RunRecord) → done_in Trace o text document → document.run ≡ Some run
         → done_in Run o text (output_of_run (reported run) run) × done_in Replay p document.bytes (output_of_run (reported run) run) }
@@ -41,10 +42,10 @@ pub fn a_trace_replays_as_its_run()
         → done_in Run o text answer → done_in Replay p document.bytes answer }
 {}
 
-/// By one worker, and in a mode that picks no events, the output is a function of the source and the options: a program and
-/// options have one run, with its events, its grants, its counts and its ending; a text and options have one answer, with its
-/// bytes, its status and its run; and two calls with the same options about one text, each of which ends with the exit code of an
-/// outcome or of a refusal, write and hand back the same. Whether a text is refused, and with which line, is never the host's.
+/// With one worker, and in a mode that picks no events, the output is a function of the source and the options. A program and
+/// options have one run, with its events, grants, counts and ending. A text and options have one answer, with its bytes, status
+/// and run. And two calls with the same options about the same text, each of which ends with the exit code of an outcome or of
+/// a refusal, write and hand back the same. Whether a text is refused, and with which line, never depends on the host.
 pub fn the_output_is_a_function_of_source_and_options()
     ensures run { (P : ProgramParts) (o : Options) (r s : RunRecord) → o.workers ≡ 1 → IsRunFor P o r → IsRunFor P o s → r ≡ s }
     ensures answer { (o : Options) (text : List ℕ) (out other : Output) → IsDecided o → IsAnswer o text out → IsAnswer o text other → out ≡ other }

@@ -1,4 +1,4 @@
-//! The program denovo, all but its `main`: it takes command words and a text, and writes its answer or why it refuses.
+//! The program denovo, except its `main`: it takes command words and a text, and writes its answer or why it refuses.
 #![tactic(auto)]
 
 ghost use Rattle.std.specs.Prelude.{◌≡◌, map, string_bytes, None, IfSome};
@@ -37,16 +37,19 @@ use serving::{answer_alone, answer_by_workers, refuse_words, status_only};
 
 /// Answers these command words and this source on one thread, whatever number of workers is asked for.
 ///
-/// `Usage` where the words aren't the command's. In the mode work the text is the generated one of the size that is asked
-/// for; in the others the source is read whole, or one byte past the most that a text, or in the mode replay a document, may
-/// have. The text is taken as a program, which is checked in all modes but list. In the modes run, work, trace and time it is run
-/// on the multicore machine of the shape that is asked for, by the events that the seed picks, and the run is handed back; in the
-/// mode flat it is run on one flat memory by the least list of grants; in the mode prove its effects are proved from the text
-/// alone. In the mode replay the source is the document of a run, as the mode trace writes it: its text is taken as the program,
-/// and its events are made on the machine of its size, and that run is handed back where it is complete. The whole answer is
-/// made, and only then written and flushed. What refuses first decides.
+/// The status is `Usage` if the command doesn't take the words. In the mode work the text is generated, with the size that is
+/// asked for. In all other modes the source is read to its end, or to one byte more than a text, or in the mode replay a
+/// document, may have. The text is taken as a program, which is checked in all modes but list.
 ///
-/// It waits for nobody.
+/// In the modes run, work, trace and time the program is run on the multicore machine of the shape that is asked for, by the
+/// events that the seed picks, and the run is handed back. In the mode flat it is run on one flat memory by the least list of
+/// grants. In the mode prove its effects are proved from the text alone. In the mode replay the source is the document of a
+/// run, as the mode trace writes it: its text is taken as the program, its events are made on the machine of its size, and that
+/// run is handed back if it is complete.
+///
+/// The whole answer is made before anything is written; then it is written and flushed. The first reason to refuse decides.
+///
+/// The call waits for no other thread.
 pub fn answer_words<S: Source, K: Sink>(
     alloc: Global,
     words: &[String],
@@ -64,7 +67,7 @@ pub fn answer_words<S: Source, K: Sink>(
     }
 }
 
-/// Answers words that ask for these options: by one worker on this thread alone, and by more on a thread for each.
+/// Answers words that ask for these options: with one worker on this thread alone, with more on a thread for each.
 fn answer_options<R: Threads + Wait + Sync, S: Source, K: Sink, G: Gate + Sync>(
     rt: &R,
     alloc: Global,
@@ -88,12 +91,13 @@ fn answer_options<R: Threads + Wait + Sync, S: Source, K: Sink, G: Gate + Sync>(
     }
 }
 
-/// The whole program but its `main`: answers these command words and this source.
+/// The whole program except its `main`: answers these command words and this source.
 ///
-/// It is `answer_words` except for the workers. With one worker the run is made by this thread alone, by the events that the seed
-/// picks, and the call waits for nobody. With 2 to 16 it is made by as many host threads, in rounds, and which event comes first
-/// is the host's: what holds of a run of one worker holds of each such run, but two calls may make two runs. The threads wait for
-/// turns, inside which the gate is called, so that what is promised then is promised if the call returns.
+/// It does the same as `answer_words`, except for the workers. With one worker this thread alone makes the run, by the events
+/// that the seed picks, and the call waits for no other thread. With 2 to 16 workers as many host threads make the run, in
+/// rounds, and the host decides which event comes first. What holds of a run by one worker holds of each such run, but two
+/// calls may make two different runs. The threads wait for turns, inside which the gate is called, so the promises are about
+/// calls that return.
 pub fn denovo_main<R: Threads + Wait + Sync, S: Source, K: Sink, G: Gate + Sync>(
     rt: &R,
     alloc: Global,

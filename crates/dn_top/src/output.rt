@@ -5,7 +5,7 @@ ghost use Rattle.dn_top.specs.Answers.{answered};
 use dn_base::{Outcome, Sequence, Status};
 use dn_machine::RunRecord;
 
-/// A status, all that is to be written, and the run of the multicore machine, if there was one.
+/// A status, all bytes that are to be written, and the run of the multicore machine, if there was one.
 #[derive(Debug, Drop)]
 pub struct Output {
     pub status: Status,
@@ -13,7 +13,7 @@ pub struct Output {
     pub run: Option<RunRecord>,
 }
 
-/// The output that something ended so, with this text, without a run of the machine.
+/// The output of an outcome with this text, without a run of the machine.
 pub(crate) fn ended(outcome: Outcome, text: Vec<u8>) -> Output
     ensures { result ≡ answered (status_of outcome) text.items }
 {

@@ -14,7 +14,7 @@ use std::rt::Env;
 use std::sync::Wait;
 use std::thread::Threads;
 
-/// Answers these command words and this source, and ends with the exit code of the answer's status.
+/// Answers these command words and this source, and gives the exit code of the answer's status.
 fn ended<R: Threads + Wait + Sync, S: Source, K: Sink>(
     rt: &R,
     alloc: Global,
@@ -30,10 +30,10 @@ fn ended<R: Threads + Wait + Sync, S: Source, K: Sink>(
     ExitCode::from(answer.status.code())
 }
 
-/// The program denovo: what `denovo_main` answers to the words that the runtime gives, to standard input and standard output.
+/// The program denovo: what `denovo_main` answers to the words that the runtime gives, with standard input and standard output.
 ///
-/// The exit code is that of the answer's status, or 9 where the runtime can't give the words; nothing is then read or written. No
-/// contract can say which words the runtime gives, and what standard input gave and standard output took.
+/// The exit code is that of the answer's status, or 9 if the runtime can't give the words; nothing is read or written then. No
+/// contract can say which words the runtime gives, what standard input had, and what standard output took.
 pub fn denovo_program<R: Env + Input + Print + AllocGlobal + Threads + Wait + Sync>(
     rt: &R,
 ) -> ExitCode

@@ -10,7 +10,8 @@ use program_outside::{ReadError, read_text};
 use std::alloc::Global;
 use work_gen::work;
 
-/// How many bytes each mode reads at most, one more than its text or document may have; `None` where it generates its text.
+/// How many bytes each mode reads at most, one more than its text or document may have; `None` for a mode that generates its
+/// text.
 fn most_of(mode: Mode) -> Option<usize>
     ensures { result ≡ most_read mode }
 {

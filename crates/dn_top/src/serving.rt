@@ -18,24 +18,24 @@ use std::alloc::Global;
 use std::sync::Wait;
 use std::thread::Threads;
 
-/// What the program answers besides what it writes.
+/// The answer of the program, besides what it writes.
 #[derive(Debug, Drop)]
 pub struct Answer {
     /// How it ended.
     pub status: Status,
-    /// The run of the multicore machine: there is one exactly in the modes run, work, trace, replay and time, where the
-    /// status is an outcome.
+    /// The run of the multicore machine: there is one exactly in the modes run, work, trace, replay and time, if the status is
+    /// an outcome.
     pub run: Option<RunRecord>,
 }
 
-/// The answer that is a status alone.
+/// An answer that is only a status.
 pub(crate) fn status_only(status: Status) -> Answer
     ensures { result ≡ without_run status }
 {
     Answer { status, run: None }
 }
 
-/// Writes the bytes, and answers this status and run, or `WriteFault` where the sink failed.
+/// Writes the bytes, and answers this status and run, or `WriteFault` if the sink failed.
 fn finish<K: Sink>(sink: &mut K, bytes: &[u8], status: Status, run: Option<RunRecord>) -> Answer
     ensures { IsWritten (sink_at (K.content sink.old) (K.flushed sink.old) (K.faults sink.old)) (sink_at (K.content sink.new) (K.flushed sink.new) (K.faults sink.new)) (record { status = status; bytes = bytes.now; run = run }) result }
 {
@@ -53,7 +53,7 @@ pub(crate) fn refuse_words<K: Sink>(sink: &mut K) -> Answer
     finish(sink, b"refused usage\n", Status::Usage, None)
 }
 
-/// Writes the answer to a text, where there was memory for it.
+/// Writes the answer to a text, if there was memory for it.
 fn reply<K: Sink>(sink: &mut K, output: Result<Output, Memory>) -> Answer
     ensures { (o : OptionsOf) (text : List ℕ) → IfOk output (IsAnswer o text)
         → IsReplied o (sink_at (K.content sink.old) (K.flushed sink.old) (K.faults sink.old)) (sink_at (K.content sink.new) (K.flushed sink.new) (K.faults sink.new)) text result }
@@ -64,7 +64,7 @@ fn reply<K: Sink>(sink: &mut K, output: Result<Output, Memory>) -> Answer
     }
 }
 
-/// The answer where there is no text.
+/// The answer if there is no text.
 fn unread(error: ReadError) -> Answer
     ensures { result ≡ without_run (status_of_read error) }
 {
@@ -74,7 +74,7 @@ fn unread(error: ReadError) -> Answer
     }
 }
 
-/// Does what options ask for, by one worker: on this thread alone.
+/// Does what options ask for with one worker: on this thread alone.
 pub(crate) fn answer_alone<S: Source, K: Sink>(
     alloc: Global,
     options: &Options,
@@ -95,7 +95,7 @@ pub(crate) fn answer_alone<S: Source, K: Sink>(
     }
 }
 
-/// Does what options ask for, the run made by several workers.
+/// Does what options ask for; several workers make the run.
 pub(crate) fn answer_by_workers<R: Threads + Wait + Sync, S: Source, K: Sink, G: Gate + Sync>(
     rt: &R,
     alloc: Global,

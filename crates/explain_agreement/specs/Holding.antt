@@ -1,4 +1,4 @@
--- Who holds a lock at the end of a run, and that a reported run is explained by its grants.
+-- Who holds a lock at the end of a run, and how a reported run is explained by its grants.
 use Rattle.std.specs.Prelude.{◌≡◌, ℕ, true, List, Some, flat_map}
 use Rattle.std.specs.List.{IsAmong}
 use Rattle.dn_base.specs.declared.ids.Grant.{Grant}
@@ -17,7 +17,7 @@ use Rattle.explained_answer.specs.declared.explaining.Explained.TheVariants.{Tex
 use Rattle.explained_answer.specs.Holders.{holder_of}
 use Rattle.explained_answer.specs.Lines.{explained_line}
 
--- after these grants the core's task of the phase, which is the last that began, holds the lock
+-- after these grants the core's task of the phase, which is the current one, holds the lock
 pub record HoldsLock (P : ProgramParts) (fuel : ℕ) (grants : List Grant) (phase core lock : ℕ) : Type 0 where
   pub last : Flat
   pub reached : so_far P fuel grants ≡ Some last
@@ -27,13 +27,13 @@ pub record HoldsLock (P : ProgramParts) (fuel : ℕ) (grants : List Grant) (phas
   pub own : task.decl.core.0 ≡ core
   pub holds : is_held task.state.held lock ≡ true
 
--- by the grants a core of the phase holds the lock, and so it does
+-- the grants name a core of the phase as the lock's holder, and its task does hold the lock
 pub record HasHolder (P : ProgramParts) (fuel : ℕ) (grants : List Grant) (phase lock : ℕ) : Type 0 where
   pub core : ℕ
   pub told : holder_of grants phase lock ≡ Some core
   pub holds : HoldsLock P fuel grants phase core lock
 
--- a reported run was explained: after each of its lines stands what is said there by the grants of the run
+-- a reported run was explained: after each of its lines comes what the grants of the run say of it
 pub record IsReportExplained (text : List ℕ) (l : Located) (r : RunRecord) (e : Explained) : Type 0 where
   pub lines : List AnswerLine
   pub are : reported r ≡ flat_map answer_line lines

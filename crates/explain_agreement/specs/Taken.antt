@@ -1,4 +1,4 @@
--- The answers of denovo, beside their texts, and that explain takes them.
+-- The answers of denovo with their texts, and that explain takes them.
 use Rattle.std.specs.Prelude.{◌≡◌, ℕ, List}
 use Rattle.run_replay.specs.declared.trace.Trace.{Trace}
 use Rattle.run_replay.specs.Document.{IsDocument}
@@ -18,13 +18,14 @@ abbrev pub IsTaken : Explained → Type 0
 IsTaken (explained.TheVariants.Text out) = Unit {0}
 IsTaken (explained.TheVariants.Refused number) = ⊥
 
--- beside which text an answer is explained: the one that was asked about, and in the mode replay the text of the document; where the
+-- with which text an answer is explained: the one that denovo was asked about, and in the mode replay the text of the document;
+-- if the bytes are no document, any text will do
 -- bytes are no document any text will do
 abbrev pub is_beside : Mode → (asked text : List ℕ) → Type 0
 is_beside mode.TheVariants.Replay asked text = (t : Trace) → IsDocument asked t → text ≡ t.text
 is_beside m asked text = text ≡ asked
 
--- what a call wrote is an answer to its options and text, and is taken
+-- what a call wrote is an answer to its options and text, and explain takes it
 pub record IsCallTaken (o : Options) (asked : List ℕ) (call : Call) : Type 0 where
   pub out : Output
   pub answer : IsAnswer o asked out

@@ -1,4 +1,5 @@
-//! What explain makes of the answers of denovo, and whom it names as the holder of a lock, as laws: functions whose contracts say it.
+//! Laws: what explain does with the answers of denovo, and whom it names as the holder of a lock. Their contracts state the
+//! theorems.
 ghost use Rattle.std.specs.Prelude.{◌≡◌, ◌≤◌, ℕ, List, Some, length};
 ghost use Rattle.std.specs.List.{IsAmong};
 ghost use Rattle.dn_base.specs.declared.ids.Grant.{Grant};
@@ -29,14 +30,15 @@ ghost use Rattle.explain_agreement.specs.Taken.{IsTaken, is_beside, IsCallTaken}
 
 use dn_top::the_output_is_a_function_of_source_and_options;
 
-/// Every answer of denovo is taken by explain, which is given the answer and its text: it is explained or repeated, and no line of it is
-/// refused. The text is the one that denovo was asked about, in the mode work the generated one, and in the mode replay the text of the
-/// document; beside an answer that refuses the bytes as no document any text will do.
+/// Explain takes every answer of denovo, if it is given the answer and its text: the answer is explained or repeated, and none
+/// of its lines is refused. The text is the one that denovo was asked about, in the mode work the generated one, and in the
+/// mode replay the text of the document. With an answer that refuses the bytes as no document, any text will do.
 ///
-/// The clause `answer` says it of each answer to options and a text, in all nine modes, whether the text is refused or not; and the clause
-/// `output` of what `explain_top::answer` makes of it, which ends with the exit code 0, if the answer has no more bytes than are looked at.
-/// The clause `call` says it of a call of `dn_top::denovo_main` with these words that ended with the exit code of an outcome or of a refusal
-/// of its text: what the sink took is such an answer. The clause `usage` says it of the line that refuses command words.
+/// The clause `answer` says this of each answer to options and a text, in all nine modes, whether the text is refused or not.
+/// The clause `output` says it of what `explain_top::answer` gives, with the exit code 0, if the answer has no more bytes than
+/// are looked at. The clause `call` says it of a call of `dn_top::denovo_main` with these words that ended with the exit code
+/// of an outcome or of a refusal of its text: what the sink took is such an answer. The clause `usage` says it of the line that
+/// refuses command words.
 pub fn every_answer_of_denovo_is_taken()
     ensures answer { (o : Options) (asked : List ℕ) (out : Output) (text : List ℕ) (e : Explained) → OptionsInRange o → IsAnswer o asked out
         → is_beside o.mode asked text → IsExplained text out.bytes e → IsTaken e }
@@ -49,12 +51,12 @@ pub fn every_answer_of_denovo_is_taken()
     the_output_is_a_function_of_source_and_options();
 }
 
-/// Where a task waits for a lock at the end of a run, the core that was granted the lock last holds it: that core has a task in the same
-/// phase, and this task holds the lock. So explain names the holder, as it names that core.
+/// If a task waits for a lock at the end of a run, the core to which the lock was granted last holds it: that core has a task
+/// in the same phase, and this task holds the lock. Explain names that core, so it names the holder.
 ///
-/// The clause `flat` says it of each run of the flat machine by grants, and the clause `run` of each run of the multicore machine that
-/// dn_top's `IsRunOf` is true of. The clause `named` says that what explain says after the lines of such a run's report is said by the
-/// grants of the run.
+/// The clause `flat` says this of each run of the flat machine by grants, and the clause `run` of each run of the multicore
+/// machine of which dn_top's `IsRunOf` is true. The clause `named` says that explain's sentences after the lines of such a
+/// run's report follow the grants of the run.
 pub fn the_core_that_was_granted_a_lock_last_holds_it()
     ensures flat { (P : ProgramParts) (fuel : ℕ) (grants : List Grant) (e : FlatEnd) (t : TaskEnd) (lock : LockId) → IsProgram P → flat_end P fuel grants ≡ Some e
         → IsAmong e.ending.tasks t → t.end ≡ Waits lock → HasHolder P fuel grants t.phase.0 lock.0 }

@@ -1,4 +1,5 @@
-//! Why the program explain takes every answer that the program denovo prints, and that a core that it names as a lock's holder holds it.
+//! Why the program explain takes every answer that the program denovo prints, and why a core that it names as a lock's holder
+//! holds it.
 #![tactic(auto)]
 
 mod laws;

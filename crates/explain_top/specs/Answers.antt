@@ -8,7 +8,7 @@ use Rattle.explained_answer.specs.declared.explaining.Explained as explained
 use Rattle.explained_answer.specs.Explained.{IsExplained}
 use Rattle.explain_top.specs.declared.answering.Output.{Output}
 
--- the line that refuses an answer: which of its lines, from 1, is the first that is no line of an answer to the text
+-- the line that refuses an answer: which of its lines, from 1, is the first that can't be a line of an answer to the text
 unfoldable pub refused_line : ℕ → List ℕ
 refused_line number = codes "refused answer " ++ decimal number ++ newline
 

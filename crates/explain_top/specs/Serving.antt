@@ -12,7 +12,7 @@ use Rattle.explain_top.specs.declared.answering.Output.{Output}
 use Rattle.explain_top.specs.Answers.{IsOutput}
 use Rattle.explain_top.specs.Texts.{TextsState, IsTextRead}
 
--- the output, whose status is told, was delivered; or the sink failed and took a prefix of it
+-- the output was delivered, with its status; or the sink failed and took a prefix of it
 abbrev pub IsWritten : Output → SinkState → SinkState → Status → Type 0
 IsWritten out before after end_status =
     ((end_status ≡ out.status) × Delivered before after out.bytes)
@@ -34,7 +34,7 @@ pub record IsGiven (text answer : List ℕ) (before after : SinkState) (end_stat
 abbrev pub IsReplied : (text answer : List ℕ) → SinkState → SinkState → Status → Type 0
 IsReplied text answer before after end_status = IsGiven text answer before after end_status ⊎ IsStarved before after end_status
 
--- the answer is what was read: to the source's end, or to one byte past the most that is looked at
+-- the answer is what was read: to the source's end, or to one byte more than is looked at
 pub record IsAnswerServed (text : List ℕ) (before after : Devices) (end_status : Status) : Type 0 where
   pub answer : List ℕ
   pub read : IsRead before.source after.source 536870913 answer
@@ -49,15 +49,15 @@ IsUnread before after end_status =
 abbrev pub IsUnheld : Devices → Devices → Status → Type 0
 IsUnheld before after end_status = (after.source.faults ≡ before.source.faults) × IsStarved before.sink after.sink end_status
 
--- how a call ends once the text is there. The source gives at most one byte past the most that is looked at. Its count of faults is as
--- it was but with ReadFault, the sink's but with WriteFault
+-- how a call ends once the text was read. The source gives at most one byte more than is looked at. Its count of faults is as
+-- before except with ReadFault, the sink's except with WriteFault
 pub record IsTextExplained (text : List ℕ) (before after : Devices) (end_status : Status) : Type 0 where
   pub few : GaveAtMost before.source after.source 536870913
   pub ended : IsAnswerServed text before after end_status ⊎ (IsUnread before after end_status ⊎ IsUnheld before after end_status)
 
 -- ---- the text
 
--- the text of the name was read, to its end or to one byte past the most that a text may have, and the answer to it was explained
+-- the text with this name was read, to its end or to one byte more than a text may have, and the answer to it was explained
 pub record IsTextServed (name : List ℕ) (texts texts_after : TextsState) (before after : Devices) (end_status : Status) : Type 0 where
   pub text : List ℕ
   pub read : IsTextRead (texts.text name) 1048577 text
@@ -85,7 +85,7 @@ IsNamedServed name texts texts_after before after end_status =
 abbrev pub refused_words : Output
 refused_words = record { status = status.TheVariants.Usage; bytes = refusal_of refusal.TheVariants.Usage }
 
--- words that aren't the command's: texts and source are left alone
+-- the command doesn't take the words: texts and source are left alone
 abbrev pub AreWordsRefused : TextsState → TextsState → Devices → Devices → Status → Type 0
 AreWordsRefused texts texts_after before after end_status =
     IsUntouched texts texts_after × (IsUntouched before.source after.source × IsWritten refused_words before.sink after.sink end_status)
@@ -95,7 +95,7 @@ abbrev pub AreWordsUnread : TextsState → TextsState → Devices → Devices �
 AreWordsUnread texts texts_after before after end_status =
     (end_status ≡ status.TheVariants.Memory) × (IsUntouched texts texts_after × IsUntouched before after)
 
--- how a call ends that could read its words, of which the text of this name is wanted; None where they aren't the command's
+-- how a call ends that could read its words, with the name of the text that they give; None if the command doesn't take them
 abbrev pub IsServedBy : Option (List ℕ) → TextsState → TextsState → Devices → Devices → Status → Type 0
 IsServedBy None texts texts_after before after end_status = AreWordsRefused texts texts_after before after end_status
 IsServedBy (Some name) texts texts_after before after end_status = IsNamedServed name texts texts_after before after end_status

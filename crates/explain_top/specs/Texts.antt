@@ -1,7 +1,7 @@
--- Texts that stand under names, and what is read of one.
+-- Texts with names, and what is read of one.
 use Rattle.std.specs.Prelude.{◌≡◌, ℕ, ◌≤◌, List, length, take, Option, IfSome}
 
--- texts at a moment: the bytes of the text of each name, where that is told, and how often reading one has failed
+-- the state of the texts: the bytes of the text of each name, if they are told, and how many reads have failed
 pub record TextsState : Type 0 where
   pub text : List ℕ → Option (List ℕ)
   pub faults : ℕ

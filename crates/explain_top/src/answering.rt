@@ -6,7 +6,7 @@ use explained_answer::{Explained, explain};
 use std::alloc::Global;
 use text_pieces::{push, push_long};
 
-/// A status, and all that is to be written.
+/// A status, and all bytes that are to be written.
 #[derive(Debug, Drop)]
 pub struct Output {
     pub status: Status,

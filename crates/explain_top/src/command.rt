@@ -25,12 +25,12 @@ fn text_of<'a>(matches: &ArgMatches<'a>, id: &str) -> Option<&'a str>
     matches.get_str(id)
 }
 
-/// The name of a text that the command's words give; the program's own name isn't among them.
+/// The name of a text that the command words give. The program's own name isn't among them.
 ///
 /// The command has one word, the name, and no options. After a word `--` the name may begin with a dash.
 ///
 /// # Errors
-/// `Usage` where the words aren't the command's, `Memory` where there is no room to read them.
+/// `Usage` if the command doesn't take the words, `Memory` if there is no room to read them.
 #[tactic(auto, unfolding(crate::specs::Command::name_in), using(crate::proofs::Commands::is_free, command_words::proofs::Commands::not_taken))]
 pub fn text_name<'a>(alloc: Global, words: &'a [String]) -> Result<&'a str, WordsFault>
     ensures taken { IfOk result (λ name. name_in (map string_bytes words.entry.now) ≡ Some name.now) }

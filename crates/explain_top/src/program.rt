@@ -30,11 +30,11 @@ fn ended<T: Texts, S: Source, K: Sink>(
     ExitCode::from(explain_main(alloc, words, texts, source, sink).code())
 }
 
-/// The program explain: what `explain_main` answers to the words that the runtime gives, to the host's files, standard input and
-/// standard output.
+/// The program explain: what `explain_main` answers to the words that the runtime gives, with the host's files, standard input
+/// and standard output.
 ///
-/// The exit code is that of the status that is told, or 9 where the runtime can't give the words; nothing is then read or written.
-/// No contract can say which words the runtime gives, which bytes files and standard input have, and what standard output took.
+/// The exit code is that of the status, or 9 if the runtime can't give the words; nothing is read or written then. No contract
+/// can say which words the runtime gives, which bytes files and standard input have, and what standard output took.
 pub fn explain_program<R: Env + Files + Input + Print + AllocGlobal>(rt: &R) -> ExitCode
     ensures { IsExitCode result }
 {

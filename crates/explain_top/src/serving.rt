@@ -75,14 +75,14 @@ fn serve_named<T: Texts, S: Source, K: Sink>(
     }
 }
 
-/// The whole program but its `main`: answers these command words, these texts and this source, and tells how it ended.
+/// The whole program except its `main`: answers these command words, these texts and this source, and returns how it ended.
 ///
-/// `Usage` where the words aren't the command's; texts and source are then left alone. Else the text of the name that they give is read,
-/// or one byte past the most that a text may have, and then the source, to its end or to one byte past the most that is looked at.
-/// Text and answer are answered as `answer` says, with its status. The whole output is made, and only then written and flushed.
-/// `ReadFault` comes where the text can't be read, and the source is then left alone, and where the source failed; `WriteFault` where the
-/// sink failed, and `Memory` where there was no memory: the sink has then taken no more than a prefix of the output, and nothing where it
-/// didn't fail.
+/// The status is `Usage` if the command doesn't take the words; texts and source are left alone then. Otherwise the text with
+/// the given name is read, to its end or to one byte more than a text may have. Then the source is read, to its end or to one
+/// byte more than is looked at. `answer` gives the output and its status. The whole output is made before anything is written;
+/// then it is written and flushed. The status is `ReadFault` if the text can't be read, and the source is left alone then, or
+/// if the source failed; `WriteFault` if the sink failed; and `Memory` if there wasn't enough memory. Then the sink has taken
+/// at most a prefix of the output, and nothing if it didn't fail itself.
 pub fn explain_main<T: Texts, S: Source, K: Sink>(
     alloc: Global,
     words: &[String],

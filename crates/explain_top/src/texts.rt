@@ -8,19 +8,20 @@ use std::alloc::Global;
 use std::fs;
 use std::rt::Files;
 
-/// Where texts stand under names.
+/// Where texts with names come from.
 ///
-/// `text` is the bytes of the text of a name, where that is told; `faults` is a count of failures that never falls.
+/// `text` is the bytes of the text of a name, or None if they aren't told. `faults` counts the reads that failed. It never
+/// falls.
 pub trait Texts {
     ghost text: { Self → List ℕ → Option (List ℕ) };
 
     ghost faults: { Self → ℕ };
 
-    /// Reads the text of this name to its end, or until `most` bytes have come. The count of faults then stays.
+    /// Reads the text with this name to its end, or until `most` bytes have come.
     ///
     /// # Errors
-    /// `Failed` only where the count of faults rose: there is no text of this name, or it can't be read. `NoMemory` where there is no
-    /// room for it; the count of faults then stays.
+    /// `Failed` if there is no text with this name, or it can't be read; this raises the count of faults, up to its greatest
+    /// value. `NoMemory` if there is no room for it; the count of faults stays then.
     fn read(&mut self, alloc: Global, name: &str, most: usize) -> Result<Vec<u8>, ReadError>
         ensures text { IfOk result (λ found. IsTextRead (text self.old name.now) most found.items) }
         ensures faultless { OnOk result (faults self.new ≡ faults self.old) }
@@ -28,7 +29,7 @@ pub trait Texts {
         ensures memory { IfErr result (λ error. error ≡ ReadError.NoMemory → faults self.new ≡ faults self.old) };
 }
 
-/// The files of the host. It counts each file that it can't read as a fault, and tells contracts nothing of their bytes.
+/// The files of the host. It counts each file that it can't read as a fault, and doesn't tell contracts the bytes of files.
 #[derive(Drop)]
 pub(crate) struct HostFiles<'r, R> {
     rt: &'r R,

@@ -25,7 +25,7 @@ pub record IsLockedOut (S : State) (c : ℕ) : Type 0 where
   pub other : holder ≢ c
   pub has : has_lock S holder lock.0 ≡ true
 
--- some task of the phase hasn't ended, and each such task waits for a lock that another core's task holds
+-- some task of the phase hasn't ended, and another core's task holds the lock for which each such task waits
 pub record IsStuck (S : State) : Type 0 where
   pub some : (c : ℕ) × HasOpenTask S c
   pub each : (c : ℕ) → HasOpenTask S c → IsLockedOut S c

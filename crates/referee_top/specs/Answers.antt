@@ -1,4 +1,4 @@
--- What the referee answers to a mode and a document.
+-- The referee's answer to a mode and a document.
 use Rattle.std.specs.Prelude.{◌≡◌, ◌⊎◌, ℕ, ◌<◌, List, length}
 use Rattle.region_table.specs.Program.{ProgramParts}
 use Rattle.claim_document.specs.declared.claim.Claim.{Claim}
@@ -54,7 +54,7 @@ verdict_reply v = record { status = verdict_status v; bytes = verdict_text v }
 abbrev pub claim_reply : Claim → Reply
 claim_reply c = record { status = status.TheVariants.Agrees; bytes = claim_text c }
 
--- a list of grants comes to a claim, which is written, or its first grant that may not come is named
+-- the result of a list of grants: its claim, which is written, or its first grant that isn't legal, which is named
 abbrev pub reply_by : RightClaim → Reply
 reply_by (Whole c) = claim_reply c
 reply_by (Refused place) = verdict_reply (Grants place)
@@ -93,13 +93,13 @@ pub record IsTooLarge (c : Claim) (line : List ℕ) : Type 0 where
   pub large : most_bytes < length (claim_text c)
   pub says : line ≡ refusal_text TooLarge
 
--- the claim that is asked for is right, and too large
+-- the right claim that is asked for is too large
 pub record IsUnwritten (IsRight : Claim → Type 0) (line : List ℕ) : Type 0 where
   pub claim : Claim
   pub right : IsRight claim
   pub large : IsTooLarge claim line
 
--- the text of a question has no program that could be run, or the claim of its program is too large
+-- the text of a question has no program that may be run, or the claim of its program is too large
 abbrev pub IsUnanswered : Question → (ProgramParts → Claim → Type 0) → List ℕ → Type 0
 IsUnanswered q IsRight line = IsUnfit q.text line ⊎ HasChecked q.text (λ P. IsUnwritten (IsRight P) line)
 
@@ -111,8 +111,8 @@ mode_done mode.TheVariants.Judge document out = HasTold IsClaimDocument document
 mode_done mode.TheVariants.Answer document out = HasTold IsOrderDocument document (λ o. HasChecked o.question.text (λ P. IsOrdered P o out))
 mode_done mode.TheVariants.Least document out = HasTold IsQuestionDocument document (λ q. HasChecked q.text (λ P. IsLeastReply P q out))
 
--- which documents each mode refuses, and with which line: the bytes have a fault, or the text that they tell, or the claim that is asked
--- for has more bytes than a document may have
+-- which documents each mode refuses, and with which line: the bytes have a fault, or their text has one, or the claim that is
+-- asked for would have more bytes than a document may have
 abbrev pub refused_with : RefereeMode → List ℕ → List ℕ → Type 0
 refused_with mode.TheVariants.Judge document line = IsFaulty HasFault document line ⊎ HasTold IsClaimDocument document (λ c. IsUnfit c.question.text line)
 refused_with mode.TheVariants.Answer document line = IsFaulty HasOrderFault document line ⊎ HasTold IsOrderDocument document (λ o. IsUnanswered o.question (λ P. IsRightClaim P o.question o.grants) line)

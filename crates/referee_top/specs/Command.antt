@@ -1,4 +1,4 @@
--- The command: its option, which lists of words it takes, and what they ask for.
+-- The command: its option, which command words it takes, and what they ask for.
 use Rattle.std.specs.Prelude.{List, codes, bytes_eq, Option, Some, None, option_and_then, if◌then◌else◌}
 use Rattle.clap.specs.Walk.{Row, Text, first_of}
 use Rattle.clap.specs.Simple.{App, new_app, with_rule}
@@ -22,6 +22,6 @@ referee_mode_named text =
 abbrev pub referee_mode_in : List Row → Option RefereeMode
 referee_mode_in rows = option_and_then referee_mode_named (first_of (codes "mode") rows)
 
--- the mode that these words ask for, where the command takes the words
+-- the mode that these words ask for, if the command takes them
 unfoldable pub referee_mode_of : List Text → Option RefereeMode
 referee_mode_of words = where_taken (faults_in referee_command words) (referee_mode_in (values_in referee_command words))

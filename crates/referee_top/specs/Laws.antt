@@ -1,4 +1,4 @@
--- What the laws of the program, in src/laws.rt, speak of.
+-- Definitions for the laws of the program, in src/laws.rt.
 use Rattle.std.specs.Prelude.{ℕ, List}
 use Rattle.claim_document.specs.Claim.{IsClaimDocument}
 use Rattle.claim_judge.specs.Judge.{AgreesWithRun}

@@ -10,7 +10,7 @@ use Rattle.referee_top.specs.declared.status.RefereeStatus as status
 use Rattle.referee_top.specs.Answers.{IsAnswer}
 use Rattle.referee_top.specs.Status.{IsRefereeCode}
 
--- the reply, whose status is told, was delivered; or the sink failed and took a prefix of it
+-- the reply was delivered, with its status; or the sink failed and took a prefix of it
 abbrev pub IsWritten : Reply → SinkState → SinkState → RefereeStatus → Type 0
 IsWritten out before after end_status =
     ((end_status ≡ out.status) × Delivered before after out.bytes)
@@ -39,7 +39,7 @@ pub record IsGiven (m : RefereeMode) (document : List ℕ) (before after : SinkS
 abbrev pub IsReplied : RefereeMode → List ℕ → SinkState → SinkState → RefereeStatus → Type 0
 IsReplied m document before after end_status = IsGiven m document before after end_status ⊎ IsStarved before after end_status
 
--- the document is what was read: to the source's end, or to one byte past the most that a document may have
+-- the document is what was read: to the source's end, or to one byte more than a document may have
 pub record IsServedDocument (m : RefereeMode) (before after : Devices) (end_status : RefereeStatus) : Type 0 where
   pub document : List ℕ
   pub read : IsRead before.source after.source 536870913 document
@@ -49,8 +49,8 @@ pub record IsServedDocument (m : RefereeMode) (before after : Devices) (end_stat
 abbrev pub usage_reply : Reply
 usage_reply = record { status = status.TheVariants.Usage; bytes = usage_line }
 
--- how a call ends of which this mode is wanted; None where the words aren't the command's. The source gives at most one byte past
--- the most that a document may have. The source's count of faults is as it was but with ReadFault, the sink's but with WriteFault
+-- how a call ends with this mode; None if the command doesn't take the words. The source gives at most one byte more than a
+-- document may have. The source's count of faults is as before except with ReadFault, the sink's except with WriteFault
 abbrev pub Serves : Option RefereeMode → Devices → Devices → RefereeStatus → Type 0
 Serves None before after end_status =
     IsUntouched before.source after.source × (IsWritten usage_reply before.sink after.sink end_status ⊎ IsStarved before.sink after.sink end_status)

@@ -18,6 +18,6 @@ referee_code status.TheVariants.Memory = 8
 abbrev pub IsRefereeCode : RefereeStatus → ExitCode → Type 0
 IsRefereeCode s code = exit_status code ≡ referee_code s
 
--- the exit code of some status, or 9: the runtime couldn't give the command words
+-- the exit code of some status, or 9 if the runtime couldn't give the command words
 abbrev pub IsRefereeExit : ExitCode → Type 0
 IsRefereeExit code = ((s : RefereeStatus) × IsRefereeCode s code) ⊎ (exit_status code ≡ 9)

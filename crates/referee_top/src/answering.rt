@@ -18,14 +18,14 @@ use effect_checker::Checked;
 use front_end::{Stop, checked_of};
 use std::alloc::Global;
 
-/// A status, and all that is to be written.
+/// A status, and all bytes that are to be written.
 #[derive(Debug, Drop)]
 pub struct Reply {
     pub status: RefereeStatus,
     pub bytes: Sequence<u8>,
 }
 
-/// What a verdict comes to.
+/// The status of a verdict.
 fn status_of(verdict: &Verdict) -> RefereeStatus
     ensures { result ≡ verdict_status verdict.now }
 {
@@ -38,7 +38,7 @@ fn status_of(verdict: &Verdict) -> RefereeStatus
     }
 }
 
-/// Says a verdict.
+/// The reply with a verdict.
 fn say(alloc: Global, verdict: &Verdict) -> Result<Reply, Memory>
     ensures { IfOk result (λ reply. reply ≡ verdict_reply verdict.now) }
 {
@@ -50,10 +50,10 @@ fn say(alloc: Global, verdict: &Verdict) -> Result<Reply, Memory>
     })
 }
 
-/// Writes a claim that is right.
+/// The reply with a right claim.
 ///
 /// # Errors
-/// `Refused` where its document would be too large, and `Memory` where there is no room for it.
+/// `Refused` if its document would be too large, and `Memory` if there is no room for it.
 fn write(alloc: Global, claim: &Claim) -> Result<Reply, Stop>
     requires { IsQuestion claim.now.question }
     ensures reply { IfOk result (λ reply. reply ≡ claim_reply claim.now) }
@@ -79,7 +79,7 @@ fn judged(alloc: Global, checked: &Checked, claim: &Claim) -> Result<Reply, Memo
     say(alloc, &verdict)
 }
 
-/// The claim of the run that goes by the grants of an order.
+/// The claim of the run by the grants of an order.
 fn ordered(alloc: Global, checked: &Checked, order: GrantOrder) -> Result<Reply, Stop>
     requires { IsOrder order }
     ensures done { IfOk result (IsOrdered checked.now order) }
@@ -95,7 +95,7 @@ fn ordered(alloc: Global, checked: &Checked, order: GrantOrder) -> Result<Reply,
     }
 }
 
-/// The claim of the run that goes by the least grants.
+/// The claim of the run by the least grants.
 fn least(alloc: Global, checked: &Checked, question: Question) -> Result<Reply, Stop>
     requires { IsQuestion question }
     ensures done { IfOk result (IsLeastReply checked.now question) }
@@ -149,9 +149,9 @@ fn done(alloc: Global, asked: RefereeMode, document: &[u8]) -> Result<Reply, Sto
 
 /// The answer to a mode and a document.
 ///
-/// A document that isn't of its form is refused with the line of its first fault. A text in it that has no checked program is refused
-/// as denovo refuses it, with the same line. In the modes answer and least a claim that would have more than 536,870,912 bytes isn't
-/// written, but refused as too large.
+/// A document that isn't of its form is refused with the line of its first fault. If its text has no checked program, it is
+/// refused as denovo refuses that text, with the same line. In the modes answer and least, a claim that would have more than
+/// 536,870,912 bytes isn't written, but refused as too large.
 ///
 /// # Errors
 /// `Memory` where there is no room for what the document tells, the run or the answer.

@@ -1,4 +1,4 @@
-//! What the referee's answers come to, as laws: functions that do nothing, whose contracts say it.
+//! Laws of the referee's answers. A law is a function without effect; its contract states the theorem.
 ghost use Rattle.std.specs.Prelude.{◌≡◌, ◌≢◌, ◌↔◌, ℕ, List};
 ghost use Rattle.claim_verdict.specs.declared.verdict.Verdict.TheVariants.{Agrees as SaysAgrees};
 ghost use Rattle.referee_top.specs.declared.answering.Reply.{Reply};
@@ -8,13 +8,13 @@ ghost use Rattle.referee_top.specs.declared.status.RefereeStatus.TheVariants.{Ag
 ghost use Rattle.referee_top.specs.Answers.{IsAnswer, verdict_reply};
 ghost use Rattle.referee_top.specs.Laws.{IsClaimOfOneThread};
 
-/// The referee says that a document agrees exactly where it claims what one thread on one memory does by the claimed grants: their run
-/// has an end, with the claimed loads, where loads are claimed, and the claimed answer.
+/// The referee says that a document agrees exactly if it claims what one thread on one memory does by the claimed grants: their
+/// run has an end, with the claimed loads, if loads are claimed, and the claimed answer.
 pub fn a_claim_agrees_where_one_thread_does()
     ensures { (document : List ℕ) (out : Reply) → IsAnswer Judge document out → (out.status ≡ Agrees) ↔ IsClaimOfOneThread document }
 {}
 
-/// What the modes answer and least print of a run, the mode judge says that it agrees.
+/// The mode judge says that a claim agrees which the modes answer or least print.
 pub fn a_claim_that_is_printed_agrees()
     ensures { (asked : RefereeMode) (document : List ℕ) (printed out : Reply) → asked ≢ Judge → IsAnswer asked document printed → printed.status ≡ Agrees
         → IsAnswer Judge printed.bytes out → out ≡ verdict_reply SaysAgrees }

@@ -1,5 +1,5 @@
-//! The program referee, all but its `main`: it judges a simulator's claim by the run of one thread on one memory, and makes claims that
-//! are right.
+//! The program referee, except its `main`: it judges a simulator's claim by the run of one thread on one memory, and makes
+//! right claims.
 #![tactic(auto)]
 
 mod answering;

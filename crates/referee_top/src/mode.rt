@@ -1,7 +1,7 @@
 /// What the referee does with a document.
 #[derive(Clone, Copy, Debug, PartialEq, Eq)]
 pub enum RefereeMode {
-    /// Takes a claim, and says whether it agrees, or where it differs first.
+    /// Takes a claim, and says whether it agrees, or where it first differs.
     Judge,
     /// Takes a question and the order of the grants, the first four parts of a claim, and prints the claim of the run by these grants.
     Answer,

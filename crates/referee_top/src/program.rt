@@ -26,10 +26,11 @@ fn ended<S: Source, K: Sink>(
     ExitCode::from(referee_main(alloc, words, source, sink).code())
 }
 
-/// The program referee: what `referee_main` answers to the words that the runtime gives, to standard input and standard output.
+/// The program referee: what `referee_main` answers to the words that the runtime gives, with standard input and standard
+/// output.
 ///
-/// The exit code is that of the status that is told, or 9 where the runtime can't give the words; nothing is then read or written.
-/// No contract can say which words the runtime gives, and what standard input gave and standard output took.
+/// The exit code is that of the status, or 9 if the runtime can't give the words; nothing is read or written then. No contract
+/// can say which words the runtime gives, what standard input had, and what standard output took.
 pub fn referee_program(rt: &(impl Env + Input + Print + AllocGlobal)) -> ExitCode
     ensures { IsRefereeExit result }
 {

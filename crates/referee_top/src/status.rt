@@ -6,22 +6,22 @@ ghost use Rattle.referee_top.specs.Status.{referee_code};
 pub enum RefereeStatus {
     /// The claim agrees, or a claim that agrees was printed.
     Agrees = 0,
-    /// The command words aren't of the command.
+    /// The command doesn't take the command words.
     Usage = 1,
-    /// The document was refused, or the text that it tells.
+    /// The document was refused, or its text.
     Refused = 2,
-    /// The claim differs from the run by its grants, or the grants may not come.
+    /// The claim differs from the run by its grants, or one of the grants isn't legal.
     Differs = 3,
-    /// The source failed.
+    /// A read of the source failed.
     ReadFault = 6,
-    /// The sink failed.
+    /// A write to the sink, or its flush, failed.
     WriteFault = 7,
-    /// There was no memory.
+    /// There wasn't enough memory.
     Memory = 8,
 }
 
 impl RefereeStatus {
-    /// The exit code: 0 to 3 and 6 to 8. What denovo tells too has the same code as there.
+    /// The exit code: 0 to 3 and 6 to 8. A status that denovo has too has the same code as there.
     pub fn code(self) -> u8
         ensures { result ≡ referee_code self }
     {

@@ -38,13 +38,13 @@ fn mode(matches: &ArgMatches<'_>) -> Option<RefereeMode>
     }
 }
 
-/// What the command's words ask for; the program's own name isn't among them.
+/// The mode that the command words ask for. The program's own name isn't among them.
 ///
-/// The command has the option `--mode`, with the value judge, answer or least, and no other words. It may be written as `--mode least`
-/// or `--mode=least`, and stands once at most; where it isn't given the mode is judge.
+/// The command has the option `--mode`, with the value judge, answer or least, and takes no other words. The option may be
+/// given once at most, as `--mode least` or `--mode=least`. The default is judge.
 ///
 /// # Errors
-/// `Usage` where the words aren't the command's, `Memory` where there is no room to read them.
+/// `Usage` if the command doesn't take the words, `Memory` if there is no room to read them.
 #[tactic(auto, unfolding(crate::specs::Command::referee_mode_of), using(crate::proofs::Commands::is_free, command_words::proofs::Commands::not_taken))]
 pub fn read_words(alloc: Global, words: &[String]) -> Result<RefereeMode, WordsFault>
     ensures taken { IfOk result (λ asked. referee_mode_of (map string_bytes words.now) ≡ Some asked) }

@@ -7,11 +7,11 @@ use message_net::{Actor, Event, EventKind};
 use std::alloc::Global;
 use std::str;
 
-/// The most events of which all chains are tried: they have 65,536 sets.
+/// The greatest number of events of which all chains are tried: they have 65,536 subsets.
 const MOST_TIMED_EVENTS: usize = 16;
 
-/// An event that came: who made it, its ticks, and which of the run's events handle a mail that was in flight before it and
-/// after it.
+/// An event that came: its actor, its ticks, and which of the run's events handle a mail that was in flight before it and after
+/// it.
 #[derive(Drop)]
 struct Came {
     actor: Actor,
@@ -169,8 +169,8 @@ fn told_time(output: &[u8]) -> Option<u64> {
         .ok()
 }
 
-/// Whether an output tells how long a run takes, by a search of all chains of its events, which the initial machine makes once more;
-/// None where there are more than 16 events, whose chains are too many.
+/// Whether an output tells how long a run takes, found by a search of all chains of its events, which the initial machine makes
+/// again; None if there are more than 16 events, which have too many chains.
 ///
 /// # Errors
 /// `NotNow` where an event may not come.

@@ -1,5 +1,5 @@
-//! Runs that are made event by event, on any machine that takes its events one at a time: the run that a script names, the loads
-//! of a run that is made once more, and the slowest of all chains of its events.
+//! Runs that are made event by event, on any machine that takes its events one at a time: the run that a script names, the
+//! loads of a run that is made again, and the slowest of all chains of its events.
 #![tactic(auto)]
 
 mod chain;

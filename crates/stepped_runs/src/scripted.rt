@@ -170,7 +170,7 @@ fn written(alloc: Global, notes: &Notes, ending: &Ending) -> Result<Written, Tro
     })
 }
 
-/// Makes the events of a script, after which none may come.
+/// Makes the events of a script, after which no event may come.
 ///
 /// # Errors
 /// The line of the script at which the run stops, and why.

@@ -2,10 +2,11 @@
 use std::rt::Clock;
 use std::time::Instant;
 
-// So many calls a thread makes between two looks at the clock, where its waits aren't watched.
+// How many calls a thread makes between two looks at the clock, if its waits aren't watched.
 const BATCH: u64 = 64;
 
-/// When a thread stops: after so many calls, or once its time is over. It looks at the clock at each call where its waits are watched.
+/// When a thread stops: after this many calls, or when its time is over. It looks at the clock at each call if its waits are
+/// watched.
 #[derive(Clone, Copy)]
 pub struct Limit {
     pub calls: u32,

@@ -20,13 +20,13 @@ use std::thread::Threads;
 use std::time::{Duration, Instant};
 use std::{env, io, thread};
 
-// So many calls are counted in all.
+// How many calls are counted in all.
 const CALLS: u32 = 8000;
 
-// So many runs are measured each way.
+// How many runs are measured each way.
 const RUNS: usize = 5;
 
-// So many threads share the object.
+// How many threads share the object.
 const THREADS: [u32; 5] = [1, 2, 4, 8, 17];
 
 // Which of the two is measured.

@@ -12,7 +12,7 @@ use std::thread;
 use std::thread::Threads;
 use turn_lock::{Turn, TurnPass};
 
-// So many callers a turn may have.
+// How many callers a turn may have.
 const MOST_THREADS: u32 = 17;
 
 // A turn of a total of 0, and its passes.
@@ -61,7 +61,7 @@ fn call_often<R: Wait + Clock>(
     pace.made()
 }
 
-/// What so many threads make through a turn, or None where memory ran out, or there are no threads or more than 17.
+/// What this many threads make through a turn, or None if memory ran out, or there are no threads or more than 17.
 pub fn by_turn<R: Threads + Wait + Clock + Sync>(
     rt: &R,
     alloc: Global,
@@ -100,7 +100,7 @@ fn note_often<R: Wait + Clock>(rt: &R, noted: &Mutex<Noted>, thread: u32, limit:
     pace.made()
 }
 
-/// What so many threads make under a `Mutex`, or None where memory ran out.
+/// What this many threads make under a `Mutex`, or None if memory ran out.
 pub fn by_mutex<R: Threads + Wait + Clock + Sync>(
     rt: &R,
     alloc: Global,

@@ -1,4 +1,4 @@
--- What the program answers to words and a document.
+-- The program's answer to options and a document.
 use Rattle.std.specs.Prelude.{◌≡◌, ◌⊎◌, ℕ, ◌-◌, ◌<◌, ◌≤◌, ◌==◌, List, [], ◌++◌, length, if◌then◌else◌}
 use Rattle.dn_base.specs.declared.ids.Shape.{Shape}
 use Rattle.region_table.specs.Program.{ProgramParts}
@@ -42,18 +42,18 @@ use Rattle.view_top.specs.declared.status.ViewStatus.TheVariants as status
 
 -- ---- the run of a document
 
--- what a document tells is a complete run, and this holds of the run
+-- a document tells a complete run, and this holds of the run
 pub record HasToldRun (P : ProgramParts) (t : Trace) (Holds : RunRecord → Type 0) : Type 0 where
   pub run : RunRecord
   pub told : IsRunTold P t run
   pub holds : Holds run
 
--- the program of a text, and where its parts stand in the text
+-- the program of a text, and the lines of its parts
 abbrev pub located : ProgramParts → List ℕ → Located
 located P text = record { program = P; places = text_places text }
 
--- the bytes are the document of a complete run of a checked program, and this holds of the program in its text, of the machine's size
--- and fuel, and of the run
+-- the bytes are the document of a complete run of a checked program, and this holds of the program in its text, of the
+-- machine's size and fuel, and of the run
 abbrev pub HasKeptRun : List ℕ → (Located → TraceShape → RunRecord → Type 0) → Type 0
 HasKeptRun document Holds = HasTrace document (λ t. HasChecked t.text (λ P. HasToldRun P t (Holds (located P t.text) t.shape)))
 
@@ -81,8 +81,8 @@ chart_ticks o = ticks_by o.tick_core o.tick_bank o.tick_mail
 abbrev pub last_number : List Event → ℕ
 last_number events = length events - 1
 
--- the output is the picture of the run's chart, with the rows and the columns that the options ask for, and with marks on the events of
--- the run's longest chain; words, code words and locks are called by the text
+-- the output is the picture of the run's chart, with the rows and the columns that the options ask for, and with marks on the
+-- events of the run's longest chain; words, code words and locks have the names of the text
 pub record IsPicture (L : Located) (s : TraceShape) (o : ChartOptions) (events : List Event) (out : Output) : Type 0 where
   pub within : o.first ≤ last_number events
   pub timing : Timing
@@ -91,7 +91,7 @@ pub record IsPicture (L : Located) (s : TraceShape) (o : ChartOptions) (events :
   pub is : IsChartOf L.program (shape_told L.program s) s.fuel events (range_for o) (numbers_in timing.links.items) o.columns chart
   pub answer : out ≡ made (svg_of chart L)
 
--- the picture would begin after the run's last event, and the words are refused
+-- the picture would begin after the run's last event, so the words are refused
 pub record IsPastEnd (o : ChartOptions) (events : List Event) (out : Output) : Type 0 where
   pub behind : last_number events < o.first
   pub answer : out ≡ usage
@@ -107,7 +107,7 @@ pub record IsAccountOf (P : ProgramParts) (shape : Shape) (fuel : ℕ) (events :
   pub setting_is : IsSettingOf P shape fuel setting
   pub is : tallies ≡ (account_of_run (initial_state setting) (no_account setting by) events).tallies
 
--- what stands above the numbers: for readers the report of the run, for other programs nothing
+-- what comes before the numbers: in a text the report of the run, in csv nothing
 abbrev pub heading_of : Form → RunRecord → List ℕ
 heading_of form.TheVariants.Text r = reported r
 heading_of form.TheVariants.Csv r = []
@@ -120,7 +120,7 @@ pub record IsAccount (P : ProgramParts) (s : TraceShape) (o : AccountOptions) (r
 
 -- ---- a state
 
--- whether the state is shown before the event that is asked for, or before an earlier one
+-- whether the state is the one that was asked for, or that before an earlier event
 abbrev pub status_at : ℕ → ℕ → ViewStatus
 status_at asked place = if place == asked then status.Done else status.Unreached
 
@@ -131,7 +131,7 @@ pub record IsShown (P : ProgramParts) (t : Trace) (o : StateOptions) (out : Outp
   pub is : IsAnswerOf P (shape_told P t.shape) t.shape.fuel (text_places t.text) t.events o.event shown
   pub answer : out ≡ record { status = status_at o.event shown.event; bytes = shown.text.items }
 
--- the document has fewer events than are asked for, and the words are refused
+-- the document has fewer events than the number that is asked for, so the words are refused
 pub record IsBehindEnd (t : Trace) (o : StateOptions) (out : Output) : Type 0 where
   pub behind : length t.events < o.event
   pub answer : out ≡ usage
@@ -139,7 +139,7 @@ pub record IsBehindEnd (t : Trace) (o : StateOptions) (out : Output) : Type 0 wh
 abbrev pub IsStateShown : ProgramParts → Trace → StateOptions → Output → Type 0
 IsStateShown P t o out = IsShown P t o out ⊎ IsBehindEnd t o out
 
--- the bytes are no document, or its text has no program that could be run; the line says why
+-- the bytes are no document, or its text has no program that may be run; the line says why
 abbrev pub IsWithoutProgram : List ℕ → List ℕ → Type 0
 IsWithoutProgram document line = IsNoDocument document line ⊎ HasTrace document (λ t. IsUnfit t.text line)
 
@@ -151,8 +151,8 @@ view_made (view.Chart o) document out = HasKeptRun document (λ L s r. IsDrawn L
 view_made (view.Account o) document out = HasKeptRun document (λ L s r. IsAccount L.program s o r out)
 view_made (view.State o) document out = HasTrace document (λ t. HasChecked t.text (λ P. IsStateShown P t o out))
 
--- which documents each mode refuses, and with which line: those that the mode replay of denovo refuses, with its line; for a state the
--- events needn't be a run
+-- which documents each mode refuses, and with which line: those that the mode replay of denovo refuses, with its line. For a
+-- state the events needn't be a run
 abbrev pub view_refused : View → List ℕ → List ℕ → Type 0
 view_refused (view.Chart o) document line = IsRefusedDocument document line
 view_refused (view.Account o) document line = IsRefusedDocument document line

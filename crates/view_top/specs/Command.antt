@@ -1,4 +1,4 @@
--- The command: its options, which lists of words it takes, and what they ask for.
+-- The command: its options, which command words it takes, and what they ask for.
 use Rattle.std.specs.Prelude.{pos, ℕ, List, codes, bytes_eq, Option, Some, None, option_and_then, if◌then◌else◌}
 use Rattle.std.specs.Int.{IsInRange}
 use Rattle.clap.specs.Walk.{Row, Rule, Text, first_of}
@@ -20,7 +20,7 @@ use Rattle.view_top.specs.declared.options.StateOptions.{StateOptions}
 
 -- ---- the command
 
--- an option whose value is a number of 32 bits; where it isn't given, the mode says what it is
+-- an option whose value is a number of 32 bits; its default depends on the mode
 abbrev pub open_number_rule : Text → Rule
 open_number_rule name = record (new_rule name) { long = Some name; action = Some Set; parser = Some (parser.Signed (pos 0) (pos 4294967295)) }
 
@@ -41,12 +41,12 @@ view_command =
 
 -- ---- what the values of its options ask for
 
--- an asked number where the option is given, and this one where it isn't
+-- the number that an option asks for, or the given default
 abbrev pub where_given : Option Text → Option ℕ → ℕ → Option ℕ
 where_given None asked otherwise = Some otherwise
 where_given (Some text) asked otherwise = asked
 
--- how many rows are asked for, from 1 to `most`; `otherwise` where no word says it
+-- how many rows are asked for, from 1 to `most`; `otherwise` is the default
 abbrev pub rows_in : List Row → ℕ → ℕ → Option ℕ
 rows_in rows otherwise most = where_given (first_of (codes "rows") rows) (number_in rows (codes "rows") 1 most) otherwise
 
@@ -122,7 +122,7 @@ view_named chart account state text =
     else if bytes_eq text (codes "state") then Some (view.TheVariants.State state)
     else None
 
--- what the values of all options ask for: each is in its range, also where the mode leaves it unused
+-- what the values of all options ask for; each must be in its range, even if the mode ignores it
 unfoldable pub view_from : List Row → Option View
 view_from rows =
     option_and_then (λ (chart : ChartOptions).
@@ -134,7 +134,7 @@ view_from rows =
     (account_options_from rows))
     (chart_options_from rows)
 
--- what these words ask for, where the command takes the words
+-- what these words ask for, if the command takes them
 unfoldable pub view_of : List Text → Option View
 view_of words = where_taken (faults_in view_command words) (view_from (values_in view_command words))
 
@@ -147,7 +147,7 @@ pub record IsChartInRange (o : ChartOptions) : Type 0 where
   pub tick_bank : IsInRange 1 1000000 o.tick_bank
   pub tick_mail : IsInRange 1 1000000 o.tick_mail
 
--- each number of a mode is; an account and a state have none that is limited
+-- each number of a mode is in its range; an account and a state have no such number
 abbrev pub IsViewInRange : View → Type 0
 IsViewInRange (view.TheVariants.Chart o) = IsChartInRange o
 IsViewInRange (view.TheVariants.Account o) = Unit {0}

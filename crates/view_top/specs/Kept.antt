@@ -1,4 +1,4 @@
--- The run of a document, as the calls inside hand it on.
+-- The run of a document, as it is passed between calls.
 use Rattle.std.specs.Prelude.{◌≡◌, ◌≤◌, length}
 use Rattle.text_places.specs.declared.places.Located.{Located}
 use Rattle.dn_machine.specs.declared.record.RunRecord.{RunRecord}
@@ -9,11 +9,11 @@ use Rattle.dn_top.specs.Documents.{shape_told}
 use Rattle.dn_top.specs.Runs.{IsPrintable}
 use Rattle.view_top.specs.declared.documents.KeptRun.{KeptRun}
 
--- the program is there twice, and once more in its text
+-- the program is there twice, and once more with its text
 abbrev pub kept_run_of : Located → TraceShape → RunRecord → KeptRun
 kept_run_of L sizes run = record { sizes = sizes; run = run; program = L.program; again = L.program; located = L }
 
--- what is known of such a run, so that a mode may make its events once more and print it
+-- what is known of such a run, so that a mode may make its events again and print it
 pub record IsViewable (k : KeptRun) : Type 0 where
   pub sizes : IsTraceShape k.sizes
   pub few : length k.run.events ≤ 25169664

@@ -9,7 +9,7 @@ use Rattle.view_top.specs.declared.status.ViewStatus as status
 use Rattle.view_top.specs.Answers.{usage, IsAnswer}
 use Rattle.view_top.specs.Status.{IsViewCode}
 
--- the output, whose status is told, was delivered; or the sink failed and took a prefix of it
+-- the output was delivered, with its status; or the sink failed and took a prefix of it
 abbrev pub IsWritten : Output → SinkState → SinkState → ViewStatus → Type 0
 IsWritten out before after end_status =
     ((end_status ≡ out.status) × Delivered before after out.bytes)
@@ -38,14 +38,14 @@ pub record IsGiven (v : View) (document : List ℕ) (before after : SinkState) (
 abbrev pub IsReplied : View → List ℕ → SinkState → SinkState → ViewStatus → Type 0
 IsReplied v document before after end_status = IsGiven v document before after end_status ⊎ IsStarved before after end_status
 
--- the document is what was read: to the source's end, or to one byte past the most that a document may have
+-- the document is what was read: to the source's end, or to one byte more than a document may have
 pub record IsDocumentServed (v : View) (before after : Devices) (end_status : ViewStatus) : Type 0 where
   pub document : List ℕ
   pub read : IsRead before.source after.source 536870913 document
   pub reply : IsReplied v document before.sink after.sink end_status
 
--- how a call ends of which this is wanted; None where the words aren't the command's. The source gives at most one byte past the most
--- that a document may have. The source's count of faults is as it was but with ReadFault, the sink's but with WriteFault
+-- how a call ends of which this is wanted; None if the command doesn't take the words. The source gives at most one byte more
+-- than a document may have. The source's count of faults is as before except with ReadFault, the sink's except with WriteFault
 abbrev pub Serves : Option View → Devices → Devices → ViewStatus → Type 0
 Serves None before after end_status =
     IsUntouched before.source after.source × (IsWritten usage before.sink after.sink end_status ⊎ IsStarved before.sink after.sink end_status)

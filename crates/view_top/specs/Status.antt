@@ -18,6 +18,6 @@ view_code status.TheVariants.Memory = 8
 abbrev pub IsViewCode : ViewStatus → ExitCode → Type 0
 IsViewCode s code = exit_status code ≡ view_code s
 
--- the exit code of some status, or 9: the runtime couldn't give the command words
+-- the exit code of some status, or 9 if the runtime couldn't give the command words
 abbrev pub IsViewExit : ExitCode → Type 0
 IsViewExit code = ((s : ViewStatus) × IsViewCode s code) ⊎ (exit_status code ≡ 9)

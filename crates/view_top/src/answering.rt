@@ -13,7 +13,7 @@ use front_end::Stop;
 use run_report::{Refusal, refusal_line};
 use std::alloc::Global;
 
-/// A status, and all that is to be written.
+/// A status, and all bytes that are to be written.
 #[derive(Debug, Drop)]
 pub struct Output {
     pub status: ViewStatus,
@@ -57,17 +57,18 @@ fn view_made(alloc: Global, view: &View, document: &[u8]) -> Result<Output, Stop
     }
 }
 
-/// The answer to what the words ask for and the document of a run.
+/// The answer to options and the document of a run.
 ///
-/// A document is refused as the mode replay of denovo refuses it, with the same line. In the mode chart the answer is the message chart
-/// of the run, as an SVG text. The events that have rows and the banks that have columns are those that the options ask for, and the
-/// events of the run's longest chain of dependent events, by the options' ticks, are marked. Where the first row would be after the run's
-/// last event, the words are refused. In the mode account it is the account of the run in the groups and the form that the options ask
-/// for, as a text below the report of the run, which is what the mode run of denovo prints.
+/// A document is refused exactly as the mode replay of denovo refuses it, with the same line. In the mode chart the answer is
+/// the message chart of the run, as an SVG text. The options choose the events that have rows and the banks that have columns;
+/// the events of the run's longest chain of dependent events, by the options' ticks, are marked. If the first row would be
+/// after the run's last event, the words are refused. In the mode account the answer is the account of the run, in the groups
+/// and the form of the options; as a text it follows the report of the run, which is what the mode run of denovo prints.
 ///
-/// In the mode state it is the state before the event that the options ask for, and what may come there. It takes a document also if its
-/// events are no complete run; where one of those before the event may not come, the state is the one before that, with the status
-/// `Unreached`. Where the document has fewer events than are asked for, the words are refused.
+/// In the mode state the answer is the state before the event that the options ask for, and which events may come there. This
+/// mode also takes documents whose events are no complete run. If one of the events before the asked one may not come, the
+/// state is the one before that event, with the status `Unreached`. If the document has fewer events than the number that is
+/// asked for, the words are refused.
 ///
 /// # Errors
 /// `Memory` where there is no room for the run, for what is made of it or for the text.

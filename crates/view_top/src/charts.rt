@@ -64,7 +64,8 @@ fn numbers_in(alloc: Global, links: &[Link]) -> Result<Sequence<u32>, Memory>
     Ok(numbers)
 }
 
-/// The picture of a run's chart. The program is handed in twice, as the timing and the chart use up one each, and once more in its text.
+/// The picture of a run's chart. The program is passed twice, since the timing and the chart use up one each, and once more
+/// with its text.
 fn picture(
     alloc: Global,
     options: &ChartOptions,

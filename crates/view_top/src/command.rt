@@ -6,7 +6,7 @@ use clap::{Arg, ArgAction, Command};
 use command_words::{bare_command, number_option, text_option, with_option};
 use std::alloc::{AllocError, Global};
 
-/// The option `--name` whose value is a number of 32 bits. It has none where it isn't given: that is for the mode to say.
+/// The option `--name` whose value is a number of 32 bits. It has no default here: that depends on the mode.
 fn open_number_option<'a>(alloc: Global, name: &'a str) -> Arg<'a>
     ensures rule { rule_of result ≡ open_number_rule name.now }
     ensures local { result.global ≡ false }

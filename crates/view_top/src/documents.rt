@@ -17,8 +17,8 @@ use run_replay::TraceShape;
 use std::alloc::Global;
 use text_places::{Located, located_program};
 
-/// The run of a document, with the size of its machine and its program. The program is there twice, since a machine uses up one, and
-/// once more with the places of its parts in the text.
+/// The run of a document, with the size of its machine and its program. The program is there twice, since a machine uses up
+/// one, and once more with the lines of its parts in the text.
 #[derive(Drop)]
 pub(crate) struct KeptRun {
     pub(crate) sizes: TraceShape,
@@ -35,7 +35,7 @@ pub(crate) fn shape_of(sizes: TraceShape, checked: &Checked) -> Shape
     shape_told(sizes, checked.program())
 }
 
-/// The program of a text that has one, and where its parts stand in the text.
+/// The program of a text that has one, with the lines of its parts.
 pub(crate) fn places_in(alloc: Global, text: &[u8]) -> Result<Located, Memory>
     requires { (fault : SourceFault) → source text.now ≢ Err fault }
     ensures program { IfOk result (λ located. source text.now ≡ Ok located.program) }

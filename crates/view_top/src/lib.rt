@@ -1,5 +1,4 @@
-//! The program view, all but its `main`: from command words and the document of a run to what the words ask to see of
-//! the run.
+//! The program view, except its `main`: from command words and the document of a run to what the words ask to see of the run.
 #![tactic(auto)]
 
 mod accounts;

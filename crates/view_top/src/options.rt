@@ -2,8 +2,8 @@ use account_table::Grouping;
 use account_text::Form;
 use run_chart::Columns;
 
-/// What is made of the document of a run, and with which options. Each mode has its own options, and those of the other modes are
-/// left unused.
+/// What is made of the document of a run, and with which options. Each mode has its own options, and ignores those of the other
+/// modes.
 #[derive(Clone, Copy, Debug, PartialEq, Eq)]
 pub enum View {
     /// The message chart of the run, as an SVG text.
@@ -19,7 +19,7 @@ pub enum View {
 pub struct ChartOptions {
     /// The number of the first event that has a row, from 0.
     pub first: u32,
-    /// How many rows there are at most, from 1 to 4,096.
+    /// The greatest number of rows, from 1 to 4,096.
     pub rows: u32,
     /// Which banks have a column.
     pub columns: Columns,
@@ -43,6 +43,7 @@ pub struct AccountOptions {
 /// What the words ask of a state.
 #[derive(Clone, Copy, Debug, PartialEq, Eq)]
 pub struct StateOptions {
-    /// The number of the event, from 0, before which the state is. The number of all events asks for the state after the last one.
+    /// The number of the event, from 0, before which the state is. The number of all events asks for the state after the last
+    /// one.
     pub event: u32,
 }

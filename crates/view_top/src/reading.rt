@@ -168,15 +168,15 @@ fn asked_view(matches: &ArgMatches<'_>) -> Option<View>
     }
 }
 
-/// What the command's words ask for; the program's own name isn't among them.
+/// What the command words ask for. The program's own name isn't among them.
 ///
-/// The command has the options `--mode`, `--first`, `--rows`, `--columns`, `--tick-core`, `--tick-bank`, `--tick-mail`, `--by`,
-/// `--form` and `--event`, each with one value, and no other words; `View` has the ranges of the numbers. An option may be written as
-/// `--rows 7` or `--rows=7`, and stands once at most; what isn't given is chart, 0, 1000, all, 1, 10, 5, run, text and 0. A mode
-/// leaves the options of other modes unused, but each has to be in its range.
+/// The options are `--mode`, `--first`, `--rows`, `--columns`, `--tick-core`, `--tick-bank`, `--tick-mail`, `--by`, `--form`
+/// and `--event`. Each has one value, and may be given once at most, as `--rows 7` or `--rows=7`. The ranges stand in `View`.
+/// The defaults are chart, 0, 1000, all, 1, 10, 5, run, text and 0. No other words are taken. A mode ignores the options of
+/// other modes, but each has to be in its range.
 ///
 /// # Errors
-/// `Usage` where the words aren't the command's, `Memory` where there is no room to read them.
+/// `Usage` if the command doesn't take the words, `Memory` if there is no room to read them.
 #[tactic(auto, unfolding(crate::specs::Command::view_of), using(crate::proofs::Commands::is_free, command_words::proofs::Commands::not_taken))]
 pub fn read_words(alloc: Global, words: &[String]) -> Result<View, WordsFault>
     ensures taken { IfOk result (λ view. view_of (map string_bytes words.now) ≡ Some view) }

@@ -57,12 +57,13 @@ fn serve<S: Source, K: Sink>(alloc: Global, view: &View, source: &mut S, sink: &
     }
 }
 
-/// The whole program but its `main`: answers these command words and this source, and tells how it ended.
+/// The whole program except its `main`: answers these command words and this source, and returns how it ended.
 ///
-/// `Usage` where the words aren't the command's; the source is then left alone. Else the source is read to its end, or one byte past
-/// the most that the document of a run may have, and what was read is answered as `answer` says, with its status. The whole answer is
-/// made, and only then written and flushed. `ReadFault` and `WriteFault` come where the source or the sink failed, and `Memory`
-/// where there was no memory: the sink has then taken no more than a prefix of the answer, and nothing where it didn't fail.
+/// The status is `Usage` if the command doesn't take the words; the source is left alone then. Otherwise the source is read to
+/// its end, or to one byte more than the document of a run may have, and `answer` gives the answer and its status. The whole
+/// answer is made before anything is written; then it is written and flushed. The status is `ReadFault` or `WriteFault` if the
+/// source or the sink failed, and `Memory` if there wasn't enough memory. Then the sink has taken at most a prefix of the
+/// answer, and nothing if it didn't fail itself.
 pub fn view_main<S: Source, K: Sink>(
     alloc: Global,
     words: &[String],

@@ -19,7 +19,7 @@ use state_text::state_at;
 use std::alloc::Global;
 use text_places::Places;
 
-/// The status of a state before the event of a number, where another number was asked for or this one.
+/// The status of a state before the event at `place`, if the event `asked` was asked for.
 fn status_at(asked: u32, place: u32) -> ViewStatus
     ensures { result ≡ status_at asked place }
 {
@@ -30,8 +30,8 @@ fn status_at(asked: u32, place: u32) -> ViewStatus
     }
 }
 
-/// The state before the event that the options ask for, or before the first that may not come; or the refusal of a number that is
-/// after the document's last event.
+/// The state before the event that the options ask for, or before the first that may not come; or the refusal of a number that
+/// is above the number of the document's events.
 fn state_in(
     alloc: Global,
     options: &StateOptions,

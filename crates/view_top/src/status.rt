@@ -6,22 +6,22 @@ ghost use Rattle.view_top.specs.Status.{view_code};
 pub enum ViewStatus {
     /// What the words ask for was made, whatever the outcome of the document's run.
     Done = 0,
-    /// The command words aren't of the command, or they ask for an event that the document doesn't have.
+    /// The command doesn't take the words, or they ask for an event that the document doesn't have.
     Usage = 1,
-    /// The document was refused, or the text that it tells.
+    /// The document was refused, or its text.
     Refused = 2,
-    /// The state before an earlier event was shown than the one that is asked for, as that one may not come.
+    /// The state is the one before an earlier event than the one that was asked for, because that earlier event may not come.
     Unreached = 3,
-    /// The source failed.
+    /// A read of the source failed.
     ReadFault = 6,
-    /// The sink failed.
+    /// A write to the sink, or its flush, failed.
     WriteFault = 7,
-    /// There was no memory.
+    /// There wasn't enough memory.
     Memory = 8,
 }
 
 impl ViewStatus {
-    /// The exit code: 0 to 3 and 6 to 8. What denovo tells too has the same code as there.
+    /// The exit code: 0 to 3 and 6 to 8. A status that denovo has too has the same code as there.
     pub fn code(self) -> u8
         ensures { result ≡ view_code self }
     {

@@ -11,8 +11,7 @@ fn checked_of(alloc: Global, text: &[u8]) -> Option<Checked> {
     check(assemble(alloc, text).ok()?).ok()
 }
 
-/// The machine of a text, of the size that the command has where none is asked for; None where the text is refused, or there is no
-/// room.
+/// The machine of a text, with the default size of the command; None if the text is refused, or there is no room.
 pub fn machine_of(alloc: Global, text: &[u8]) -> Option<Machine>
     ensures { IfSome result (λ m. m.made ≡ 0) }
 {
