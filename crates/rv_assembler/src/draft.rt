@@ -230,6 +230,7 @@ fn push_members(
 }
 
 impl Draft {
+    /// The draft before the first line: empty tables. Takes no memory.
     pub fn new(alloc: Global) -> Draft
         ensures { result ≡ no_draft }
     {

@@ -30,6 +30,7 @@ impl<O> Drop for Plan<O> {
     }
 }
 
+/// The rule of a turn: `Kept` holds between any two steps.
 pub struct Law<O> {
     object: PhantomData<O>,
 }
@@ -40,8 +41,10 @@ impl<O: Object> TableRule<Option<Desk<O>>, View<O, Entry<O>>, Plan<O>> for Law<O
     ghost first = { λ plan. dealer plan.object.value 1 (plan.passes - 1) };
 }
 
+/// The shared table of a turn: its two words, its slot, and what its seats know.
 pub type Board<O> = Table<Option<Desk<O>>, View<O, Entry<O>>, Plan<O>, Law<O>, Global>;
 
+/// A caller's seat at that table.
 pub type Chair<O> = Seat<Option<Desk<O>>, View<O, Entry<O>>>;
 
 /// A ticket was drawn.
