@@ -1,4 +1,4 @@
-//! What the numbers of an account come to, for proofs about them.
+//! Laws of the numbers of an account.
 //! A law is a function without effect; its contract states the theorem.
 ghost use Rattle.std.specs.Prelude.{◌≡◌, ℕ, ◌<◌, ◌++◌, true, List, length, slice_get, Some};
 ghost use Rattle.std.specs.List.{All};

@@ -30,7 +30,7 @@ impl Model for AccountTable {
     ghost view = { λ t. record { by = t.by; regions = t.regions; numbers = t.numbers.items } };
 }
 
-/// Adds so many words of a region.
+/// Adds this many words of a region.
 fn push_words(words: &mut Sequence<u32>, count: u32, region: u32) -> Result<(), Memory>
     ensures { OnOk result (words.new ≡ words.old ++ replicate count region) }
 {
@@ -54,7 +54,7 @@ fn regions_of(alloc: Global, regions: &[Region]) -> Result<Sequence<u32>, Memory
     Ok(words)
 }
 
-/// No item of any measure, in so many groups.
+/// No item of any measure, in this many groups.
 fn no_numbers(alloc: Global, groups: usize) -> Result<Vec<Numbers>, Memory>
     ensures { IfOk result (λ numbers. numbers.items ≡ replicate groups (replicate 26 0)) }
 {

@@ -88,7 +88,7 @@ fn push_line(
     Ok(())
 }
 
-/// Adds the lines of a measure in so many groups.
+/// Adds the lines of a measure in this many groups.
 fn push_measure(
     out: &mut Vec<u8>,
     program: &Program,

@@ -10,7 +10,7 @@ use itoa::Buffer;
 use region_table::Program;
 use text_pieces::push;
 
-/// Adds so many spaces.
+/// Adds this many spaces.
 fn push_spaces(out: &mut Vec<u8>, count: usize) -> Result<(), Memory>
     ensures { OnOk result (out.new.items ≡ out.old.items ++ replicate count 32) }
 {
@@ -61,7 +61,7 @@ fn push_group(
     }
 }
 
-/// Adds the names of so many groups.
+/// Adds the names of this many groups.
 fn push_groups(
     out: &mut Vec<u8>,
     program: &Program,
@@ -88,7 +88,7 @@ fn push_tally(
     push_number(out, table.number(measure, group))
 }
 
-/// Adds the numbers of a measure in so many groups.
+/// Adds the numbers of a measure in this many groups.
 fn push_numbers(
     out: &mut Vec<u8>,
     table: &AccountTable,

@@ -157,7 +157,7 @@ pub record AreHallParts (banks : List BankActorParts) (ports : List PortParts) (
   pub port_mails : (c : ℕ) (port : PortParts) → slice_get ports c ≡ Some port → IsInboxOf (Core (record { 0 = c })) port.inbox
   pub keeper_mails : IsInboxOf Keeper keeper.state.inbox
 
--- the hall shares these parts among so many passes
+-- the hall shares these parts among this many passes
 pub record IsSharedHall (banks : List BankActorParts) (ports : List PortParts) (keeper : KeeperActorParts) (passes : ℕ) (hall : HallView) : Type 0 where
   pub banks_shared : AreShared passes banks hall.banks
   pub ports_shared : AreShared passes ports hall.ports

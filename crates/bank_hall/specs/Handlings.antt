@@ -90,7 +90,7 @@ abbrev pub bank_told : BankOut → Option Handled
 bank_told bank_out.TheVariants.Kept = None
 bank_told (bank_out.TheVariants.Stepped handled) = handled
 
--- the same of the keeper
+-- the same for the keeper
 abbrev pub keeper_alone : KeeperState → KeeperState
 keeper_alone s = record s { inbox = [] }
 

@@ -53,7 +53,7 @@ pub record HasCalled {O I U C : Type 0} (content : O → C) (answer : C → I �
   pub made : after.made ≡ before.made ++ call ∷ []
   pub own : calls_by after.number after.seen ≡ after.made
 
--- the turns share these objects, in their order, each among so many passes
+-- the turns share these objects, in their order, each among this many passes
 pub record AreShared {O : Type 0} (passes : ℕ) (objects : List O) (turns : List (Sharing O)) : Type 0 where
   pub opened : map (λ (t : Sharing O). t.opening) turns ≡ objects
   pub shared : All (λ (t : Sharing O). t.passes ≡ passes) turns

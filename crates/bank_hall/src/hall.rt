@@ -410,7 +410,7 @@ impl Hall {
     }
 }
 
-/// Shows that a value goes from thread to thread.
+/// Compiles only if the type may be sent to another thread.
 fn may_be_sent<T: Send>(_value: &T) {}
 
 /// A hall may be shared by threads, and a pass sent to one. Nobody calls this; the check of its body proves it.

@@ -1,4 +1,4 @@
-//! What the histories of a bank, of the keeper and of a port come to, for proofs about a hall.
+//! Laws of the histories of a bank, of the keeper and of a port, for proofs about a hall.
 //! A law is a function without effect; its contract states the theorem.
 ghost use Rattle.std.specs.Prelude.{◌≡◌, ◌≤◌, ◌<◌, ◌^◌, ◌+◌, ◌*◌, ℕ, List, length, filter_map, map, sum_by, All};
 ghost use Rattle.message_net.specs.declared.actor.Actor.TheVariants.{Keeper};

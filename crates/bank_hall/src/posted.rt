@@ -77,5 +77,5 @@ pub(crate) fn note(actor: Actor, stamp: u64, mail: &Mail) -> Stamped
     }
 }
 
-/// Shows that a value goes from thread to thread, and may be shared.
+/// Compiles only if the type may be sent to another thread and shared with it.
 pub(crate) fn crosses<T: Send + Sync>(_value: &T) {}

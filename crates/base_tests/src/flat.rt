@@ -106,7 +106,7 @@ fn first_wrong(alloc: Global) -> Result<Option<usize>, Memory> {
     Ok(None)
 }
 
-/// How the counter's run ends by so many grants to the four cores in turn.
+/// How the counter's run ends by this many grants to the four cores in turn.
 fn counted(alloc: Global, count: u32) -> Result<End, Memory> {
     let mut grants = Vec::new(alloc);
     for number in 0..count {

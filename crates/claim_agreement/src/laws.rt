@@ -36,7 +36,7 @@ pub fn the_claim_of_any_run_agrees()
 /// replay and time, with one worker or several. Take a claim about its text with the grants of that run, the loads of its
 /// events, task by task, or no loads, and the answer of its ending. The judge says that it agrees (`verdict`), and so does the
 /// referee of the claim's document (`answer`). There is such a claim, with all loads (`claimed`), and its answer is what the
-/// mode run prints first (`printed`). The clause `run` says the same of each run of which dn_top's `IsRunOf` is true.
+/// mode run prints first (`printed`). The clause `run` says the same for each run of which dn_top's `IsRunOf` is true.
 pub fn the_claim_of_any_run_of_denovo_agrees()
     ensures run { (P : ProgramParts) (machine : Shape) (fuel : ℕ) (r : RunRecord) (C : Setting) (c : Claim) → IsRunOf P machine fuel r → IsSettingOf P machine fuel C → IsClaimOfRecord C r c
         → IsVerdict P c Agrees }

@@ -1,4 +1,4 @@
-//! What the definitions come to, for proofs about claims.
+//! Laws of the definitions, for proofs about claims.
 ghost use Rattle.std.specs.Prelude.{◌≡◌, ℕ, List};
 ghost use Rattle.claim_document.specs.declared.claim.Claim.{Claim as ClaimOf};
 ghost use Rattle.claim_document.specs.declared.claim.ClaimFault.{ClaimFault as FaultOf};

@@ -8,7 +8,7 @@ use dn_base::{Grant, LoadSeen};
 /// The number of lines, as a document tells it in 32 bits.
 ///
 /// # Errors
-/// `TooLarge` if there are 2^32 or more: each line has at least a byte, so no document has room for so many.
+/// `TooLarge` if there are 2^32 or more: each line has at least a byte, so no document has room for that many.
 pub(crate) fn told(lines: usize) -> Result<u32, ClaimTextError>
     ensures count { IfOk result (λ count. count ≡ lines) }
     ensures number { IfOk result (λ count. IsNumber lines) }

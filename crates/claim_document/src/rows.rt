@@ -80,7 +80,7 @@ pub(crate) fn loads_head(bytes: &[u8]) -> Option<(Option<u32>, &[u8])>
     Some((Some(count), rest))
 }
 
-/// Adds the grants whose lines stand at the start of some bytes, so many of them. The answer is what follows these.
+/// Adds this many grants, whose lines stand at the start of some bytes. The answer is what follows these.
 ///
 /// # Errors
 /// `Grant` where a line isn't there whole in its form, and `Memory`.
@@ -104,7 +104,7 @@ pub(crate) fn push_grants<'a>(
     Ok(rest)
 }
 
-/// Adds the loads of this task whose lines stand at the start of some bytes, so many of them. The answer is what follows these.
+/// Adds this many loads of this task, whose lines stand at the start of some bytes. The answer is what follows these.
 ///
 /// # Errors
 /// `Load` where a line isn't there whole in its form, and `Memory`.
@@ -155,7 +155,7 @@ fn push_task<'a>(
     Ok(rest)
 }
 
-/// Adds the tasks that stand at the start of some bytes, so many of them. The answer is what follows these.
+/// Adds this many tasks, which stand at the start of some bytes. The answer is what follows these.
 ///
 /// # Errors
 /// `Task` or `Load` where a line isn't there whole in its form, and `Memory`.

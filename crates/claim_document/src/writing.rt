@@ -147,7 +147,7 @@ fn push_loads_part(
     }
 }
 
-/// Adds what stands before so many grants.
+/// Adds what stands before this many grants.
 #[tactic(auto, unfolding(crate::specs::Claim::head_text))]
 fn push_head(out: &mut Vec<u8>, question: &Question, count: u32) -> Result<(), Memory>
     requires { length question.now.text ≤ 1048576 }

@@ -1,4 +1,4 @@
-//! What the definitions come to, for proofs about claims and their verdicts.
+//! Laws of the definitions, for proofs about claims and their verdicts.
 ghost use Rattle.std.specs.Prelude.{◌≡◌, ◌↔◌, ℕ, List};
 ghost use Rattle.dn_base.specs.declared.ids.Grant.{Grant as GrantOf};
 ghost use Rattle.region_table.specs.Program.{ProgramParts};

@@ -41,7 +41,7 @@ fn behind_line(text: &[u8]) -> &[u8]
     }
 }
 
-/// A text without so many of its first lines.
+/// A text without its first `count` lines.
 fn behind_lines(text: &[u8], count: u32) -> &[u8]
     ensures { result.now ≡ behind_lines count text.now }
 {
@@ -52,7 +52,7 @@ fn behind_lines(text: &[u8], count: u32) -> &[u8]
     rest
 }
 
-/// The line of this number, from 0, without its newline, where the text has so many lines.
+/// The line of this number, from 0, without its newline, where the text has this many lines.
 ///
 /// # Errors
 /// `Memory` where there is no room for the line.

@@ -22,7 +22,7 @@ end_at (Some n) = end_of n n.task
 abbrev pub EndTable : Type 0
 EndTable = List (Option TaskEnd)
 
--- a table without ends for so many phases
+-- a table without ends for this many phases
 abbrev pub no_ends : ℕ → EndTable
 no_ends phases = replicate (16 * phases) None
 

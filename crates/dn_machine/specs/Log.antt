@@ -49,7 +49,7 @@ pub record HasCome (S T : State) (h : Happened) : Type 0 where
   pub observed : h.observed ≡ observed S h.event
   pub end : h.end ≡ end_there T (core_in S h.event)
 
--- the log of no event, for a program of so many phases
+-- the log of no event, for a program of this many phases
 abbrev pub no_log : ℕ → Log
 no_log phases = record { events = []; grants = []; counts = no_counts; ends = no_ends phases }
 

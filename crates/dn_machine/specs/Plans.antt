@@ -9,6 +9,6 @@ pub record IsInOneForm (plan : PhasePlan) : Type 0 where
   pub written : IsCanonical plan.written
   pub guarded : All IsCanonical plan.guarded
 
--- the same of each of these plans
+-- the same for each of these plans
 abbrev pub AreInOneForm : List PhasePlan → Type 0
 AreInOneForm plans = All IsInOneForm plans

@@ -1,4 +1,4 @@
-//! What a pick tells of a state, and what a complete run comes to, for proofs about runs.
+//! Laws of picks and of complete runs, for proofs about runs.
 //! A law is a function without effect; its contract states the theorem.
 ghost use Rattle.std.specs.Prelude.{◌≡◌, ◌↔◌, ℕ, List, Some, None, true};
 ghost use Rattle.message_net.specs.declared.event.Event.{Event};

@@ -37,7 +37,7 @@ pub struct Log {
     pub ends: Sequence<Option<TaskEnd>>,
 }
 
-/// A table without ends, for so many phases.
+/// A table without ends, for this many phases.
 fn no_ends(alloc: Global, phases: usize) -> Result<Sequence<Option<TaskEnd>>, Memory>
     requires { phases ≤ 64 }
     ensures { IfOk result (λ table. table ≡ no_ends phases) }

@@ -51,7 +51,7 @@ impl Model for Machine {
         × KnowsOwn (record { program = m.decoded; plans = m.plans.items; shape = m.shape; fuel = m.fuel }) m.content };
 }
 
-/// What the nodes of a machine are told.
+/// The context that the nodes of a machine are given.
 pub(crate) fn context_of<'a>(
     decoded: &'a DecodedProgram,
     plans: &'a Vec<PhasePlan>,

@@ -21,7 +21,7 @@ use registration_protocol::{Context, Node};
 use registry_bank::Bank;
 use std::alloc::Global;
 
-/// The nodes as a run begins, in the order of their cores.
+/// The nodes when a run begins, in the order of their cores.
 pub(crate) fn new_nodes(alloc: Global, context: &Context<'_>) -> Result<Vec<Node>, Memory>
     requires { IsContext (setting context.now) }
     ensures { IfOk result (λ nodes. nodes.items ≡ map (initial_node (setting context.now)) (range_with_len 0 (setting context.now).shape.cores)) }
@@ -33,7 +33,7 @@ pub(crate) fn new_nodes(alloc: Global, context: &Context<'_>) -> Result<Vec<Node
     Ok(nodes)
 }
 
-/// The banks as a run begins, in the order of their numbers, with this first memory and so many locks in all.
+/// The banks when a run begins, in the order of their numbers, with this initial memory and this many locks in all.
 pub(crate) fn new_banks(
     alloc: Global,
     shape: Shape,
@@ -54,7 +54,7 @@ pub(crate) fn new_banks(
     Ok(banks)
 }
 
-/// The first memory of a program.
+/// The initial memory of a program.
 fn memory_of(program: &Program) -> &[u32]
     ensures is { result.now ≡ program.now.memory }
     ensures most { length result.now ≤ 65536 }
@@ -103,7 +103,7 @@ pub(crate) fn own_events(nodes: &[Node], context: &Context<'_>) -> OwnRow
     OwnRow::new(own)
 }
 
-/// What changes in a machine, as a run begins.
+/// What changes in a machine, when a run begins.
 pub(crate) fn initial_content(alloc: Global, context: &Context<'_>) -> Result<Content, Memory>
     requires context { IsContext (setting context.now) }
     requires program { IsProgram (setting context.now).program }

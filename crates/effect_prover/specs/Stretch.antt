@@ -37,7 +37,7 @@ abbrev pub IsUsableKept : Access → TaskDecl → Option UsableSet → Type 0
 IsUsableKept access d None = Unit {0}
 IsUsableKept access d (Some kept) = IsUsableSet access d kept.held kept.words
 
--- the same of the loads and of the stores
+-- the same for the loads and for the stores
 pub record AreUsableKept (d : TaskDecl) (sets : UsableSets) : Type 0 where
   pub loads : IsUsableKept Load d sets.loads
   pub stores : IsUsableKept Store d sets.stores

@@ -14,7 +14,7 @@ use std::io;
 use std::process::ExitCode;
 use std::rt::{Env, Files};
 
-/// Answers these command words, texts and source, and ends with the exit code of the status that is told.
+/// Answers these command words, texts and source, and ends with the exit code of the status.
 fn ended<T: Texts, S: Source, K: Sink>(
     alloc: Global,
     words: &[String],

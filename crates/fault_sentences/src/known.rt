@@ -14,7 +14,7 @@ use std::alloc::Global;
 #[derive(Clone, Copy)]
 pub(crate) enum Sort {
     Label,
-    /// A region of so many words.
+    /// A region of this many words.
     Region { len: i64 },
     Lock,
 }

@@ -36,7 +36,7 @@ pub(crate) fn part_by(token: Token) -> Part
     }
 }
 
-/// The first so many bytes, or all where there are fewer.
+/// The first `count` bytes, or all if there are fewer.
 fn first(bytes: &[u8], count: usize) -> &[u8]
     ensures { result.now ≡ take count bytes.now }
 {

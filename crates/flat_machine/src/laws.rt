@@ -1,4 +1,4 @@
-//! What segments and lists of grants come to, for proofs that compare other machines with the flat one.
+//! Laws of segments and lists of grants, for proofs that compare other machines with the flat one.
 //! A law is a function without effect; its contract states the theorem.
 ghost use Rattle.std.specs.Prelude.{◌≡◌, ◌≢◌, ◌<◌, ◌↔◌, ℕ, List, [], ◌∷◌, ◌++◌, length, slice_get, slice_index, Some, None, true, false};
 ghost use Rattle.std.specs.List.{All, AllPairs, Any, IsAmong};

@@ -1,4 +1,4 @@
-//! What the definitions come to, for proofs about logs.
+//! Laws of the definitions, for proofs about logs.
 //! A law is a function without effect; its contract states the theorem.
 ghost use Rattle.std.specs.Prelude.{◌≡◌, ◌+◌, ◌<◌, if◌then◌else◌, List, length, filter, flat_map, sum};
 ghost use Rattle.message_net.specs.declared.actor.Actor.{Actor};

@@ -198,7 +198,7 @@ fn call_in_two<R: Threads + Wait + Sync>(
     Some((zero?, one?))
 }
 
-/// The total after so many calls of each of two threads, and how many calls the history has of each pass.
+/// The total after this many calls of each of two threads, and how many calls the history has of each pass.
 type Totals = (u64, usize, usize);
 
 fn totals_once<R: Threads + Wait + Sync>(

@@ -20,7 +20,7 @@ use Rattle.round_rules.specs.Rounds.{core_at, done_by, end_observed}
 abbrev pub IsStampedBefore : Stamped → Stamped → Type 0
 IsStampedBefore a b = a.actor ≡ b.actor → a.stamp < b.stamp
 
--- an end that an event tells is of a core, one of so many
+-- an end that an event tells is that of a core with a number below `cores`
 abbrev pub EndIsOfCore : ℕ → Done → Type 0
 EndIsOfCore cores d = (end : TaskEnd) → d.end ≡ Some end → (core : ℕ) × (core < cores) × (d.stamped.actor ≡ core_at core)
 

@@ -45,7 +45,7 @@ mails_to a mails = filter (goes_to a) mails
 abbrev pub inbox_at_first : List Mail → Actor → List Posted
 inbox_at_first mails a = map (with_stamp 0) (mails_to a mails)
 
--- the inboxes of a machine of this shape as a round begins
+-- the inboxes of a machine of this shape when a round begins
 pub record AreFirstInboxes (shape : Shape) (mails : List Mail) (inboxes : InboxParts) : Type 0 where
   pub cores : inboxes.cores ≡ map (λ c. inbox_at_first mails (core_at c)) (range_with_len 0 shape.cores)
   pub banks : inboxes.banks ≡ map (λ b. inbox_at_first mails (bank_at b)) (range_with_len 0 shape.banks)

@@ -65,7 +65,7 @@ pub record AreCrewsOf (workers : ℕ) (roster : RosterParts) (crews : List Crew)
   pub count : length crews ≡ workers
   pub each : (k : ℕ) (crew : Crew) → slice_get crews k ≡ Some crew → IsCrewOf workers roster k crew
 
--- the crews are those of a roster of so many cores and banks
+-- the crews are those of a roster of this many cores and banks
 abbrev pub AreDealt : ℕ → ℕ → List Crew → Type 0
 AreDealt cores banks crews = (roster : RosterParts) × IsRoster cores banks roster × AreCrewsOf (length crews) roster crews
 

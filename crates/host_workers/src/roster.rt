@@ -49,7 +49,7 @@ fn fresh_core(alloc: Global, number: u32, node: Node, next: u32) -> Owned
     }
 }
 
-/// The cores of these nodes as a round begins.
+/// The cores of these nodes when a round begins.
 fn fresh_cores(alloc: Global, nodes: Vec<Node>, next: &[u32]) -> Result<Vec<Owned>, Memory>
     requires few { length nodes.items ≤ 16 }
     requires numbers { length nodes.items ≤ length next.now }
@@ -207,7 +207,7 @@ fn push_logs(logs: &mut Vec<Vec<Stamped>>, banks: Vec<BankLog>) -> Result<(), Me
 }
 
 impl Roster {
-    /// The roster of these nodes and so many banks as a round begins; `next` has the numbers of the actors' next mails.
+    /// The roster of these nodes and this many banks when a round begins; `next` has the numbers of the actors' next mails.
     ///
     /// # Errors
     /// `Memory` where there is no room.

@@ -74,7 +74,7 @@ fn parts_of(machine: Machine) -> (FixedParts, Moving)
 }
 
 impl FixedParts {
-    /// What the nodes of the machine are told.
+    /// The context that the nodes of the machine are given.
     fn context(&self) -> Context<'_>
         ensures { setting result ≡ fixed_setting self.now }
     {

@@ -15,7 +15,7 @@ use rv_core::{EndShown, TaskEnd};
 use std::alloc::Global;
 use std::test::Fail;
 
-/// A machine that has made so many events makes no more here: far more than the run has.
+/// A machine that has made this many events makes no more here: far more than the run has.
 const MOST_EVENTS: u64 = 1000;
 
 /// `lui t0, 0x10000`, `addi t1, x0, 5`, `sw t1, 0(t0)`, `addi a7, x0, 0`, `ecall`, by the GNU assembler 2.40 for rv32i.
@@ -95,7 +95,7 @@ fn step(machine: &mut Machine, draw: u32) -> Result<(), Memory> {
     machine.step(event).map(|_told| ())
 }
 
-/// Makes so many events, or as many as there are.
+/// Makes this many events, or as many as there are.
 fn go_on(machine: &mut Machine, events: u32) -> Result<(), Memory> {
     for draw in 0..events {
         step(machine, draw)?;

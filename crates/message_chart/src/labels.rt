@@ -207,7 +207,7 @@ fn push_title_begin(out: &mut Vec<u8>) -> Result<(), Memory>
     push(out, b"Message chart: ")
 }
 
-/// The number of the last of so many things, or 0.
+/// The number of the last of this many things, or 0.
 fn last_of(count: usize) -> usize
     ensures { result ≡ count - 1 }
 {

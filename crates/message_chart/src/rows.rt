@@ -345,7 +345,7 @@ fn push_leaving(
     push_beside(out, text, from_right, at, mail.kind, mail.about)
 }
 
-/// Adds the same of all of them.
+/// Adds the same for all of them.
 pub(crate) fn push_leaving_mails(
     out: &mut Vec<u8>,
     chart: &Chart,
@@ -379,7 +379,7 @@ fn push_waiting_task(
     push_words_end(out)
 }
 
-/// Adds the same of all that wait.
+/// Adds the same for all that wait.
 pub(crate) fn push_waiting_tasks(
     out: &mut Vec<u8>,
     chart: &Chart,

@@ -1,4 +1,4 @@
-//! What posts and takes come to, for proofs about mails in flight.
+//! Laws of posts and takes, for proofs about mails in flight.
 //! A law is a function without effect; its contract states the theorem.
 ghost use Rattle.std.specs.Prelude.{◌≡◌, ℕ, ◌+◌, ◌<◌, ◌≤◌, ◌↔◌, Bool, List, length, slice_get, Some, None, true, sum_by, count_by, IsPermutation};
 ghost use Rattle.std.specs.Ordering.{nat_cmp};

@@ -45,7 +45,7 @@ fn tell(row: &mut [Option<u32>], index: usize, place: Option<u32>) {
 }
 
 impl Places {
-    /// The places of these mails, with room for the places of so many.
+    /// The places of these mails, with room for `room` places.
     ///
     /// # Errors
     /// `Memory` where there is no room.
@@ -63,7 +63,7 @@ impl Places {
         Ok(places)
     }
 
-    /// Makes room for the places of so many mails.
+    /// Makes room for the places of this many mails.
     ///
     /// # Errors
     /// `Memory` where there is no room.

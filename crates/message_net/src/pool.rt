@@ -227,7 +227,7 @@ impl Pool {
     }
 }
 
-/// Shows that a value goes from thread to thread, and may be shared.
+/// Compiles only if the type may be sent to another thread and shared with it.
 fn crosses<T: Send + Sync>(_value: &T) {}
 
 /// A pool may be sent to another thread, and shared with it. Nobody calls this; the check of its body proves it.

@@ -42,7 +42,7 @@ fn push_bit(out: &mut Vec<u8>, bit: u32, set: bool) -> Result<(), Memory>
     if set { push_all(out, &[bit]) } else { Ok(()) }
 }
 
-/// Adds the numbers of those of the first so many bits that are set.
+/// Adds the numbers of the bits that are set among the first `count`.
 fn push_bits(out: &mut Vec<u8>, signature: &Signature, count: u32) -> Result<(), Memory>
     requires { count ≤ 256 }
     ensures { OnOk result (out.new.items ≡ out.old.items ++ bit_texts signature.now 0 count) }

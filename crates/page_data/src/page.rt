@@ -37,7 +37,7 @@ pub struct Page<'a> {
     pub most: u32,
 }
 
-/// The first so many events, and those after them.
+/// The first `wanted` events, and those after them.
 #[tactic(auto, using(std::proofs::lemmas::List::take_all, std::proofs::lemmas::List::drop_all))]
 fn parted(events: &[Event], wanted: u32) -> (&[Event], &[Event])
     ensures front { result.0.now ≡ take wanted events.now }

@@ -1,4 +1,4 @@
-//! What acquires and releases come to, for proofs about a lock's holder and queue.
+//! Laws of acquires and releases, for proofs about a lock's holder and queue.
 //! A law is a function without effect; its contract states the theorem.
 ghost use Rattle.std.specs.Prelude.{◌≡◌, ◌↔◌, ℕ, ◌+◌, ◌<◌, ◌≤◌, ◌==◌, true, if◌then◌else◌, List, length, Some, None};
 ghost use Rattle.std.specs.List.{All};

@@ -1,4 +1,4 @@
-//! What a node's events come to, for proofs about the machine.
+//! Laws of a node's events, for proofs about the machine.
 //! A law is a function without effect; its contract states the theorem.
 ghost use Rattle.std.specs.Prelude.{◌≡◌, ℕ, ◌+◌, ◌<◌, ◌==◌, Bool, Option, Some, None, IfSome, true, false, length, slice_get, if◌then◌else◌};
 ghost use Rattle.dn_base.specs.declared.ids.CoreId.{CoreId};

@@ -141,8 +141,8 @@ impl Node {
         }
     }
 
-    /// Whether the node may arrive at the barrier: it is neither halted nor has it arrived, no task of it goes on, and no
-    /// entry is pending. Takes no memory.
+    /// Whether the node may arrive at the barrier: it isn't halted and hasn't arrived, it has no running task, and no entry is
+    /// pending. Takes no memory.
     pub fn may_arrive(&self) -> bool
         ensures { result ≡ may_arrive self.now }
     {
@@ -326,7 +326,7 @@ impl Node {
     }
 }
 
-/// Shows that a value goes from thread to thread.
+/// Compiles only if the type may be sent to another thread.
 fn crosses<T: Send>(_value: &T) {}
 
 /// A node may be sent to another thread. Nobody calls this; the check of its body proves it.

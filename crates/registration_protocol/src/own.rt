@@ -12,7 +12,7 @@ use message_net::{Event, Outgoing};
 use rv_core::{End, EndShown, TaskEnd};
 use word_cache::Entry;
 
-/// How a task stands that ended so, or that goes on at a node with this wait; None where it hasn't ended and waits for no lock.
+/// How a task stands, by its end and its node's wait; None if it hasn't ended and waits for no lock.
 fn shown(end: Option<End>, wait: NodeWait) -> Option<EndShown>
     ensures { result ≡ shown_by end wait }
 {
@@ -140,8 +140,8 @@ impl Node {
         }
     }
 
-    /// How the node's task stands, and how many instructions it has retired; None exactly where the node has no task, or its
-    /// task goes on and waits for no lock. Takes no memory.
+    /// How the node's task stands, and how many instructions it has retired; None exactly if the node has no task, or its
+    /// task is running and waits for no lock. Takes no memory.
     pub fn task_end(&self) -> Option<TaskEnd>
         ensures { result ≡ end_of self.now self.now.task }
     {

@@ -67,8 +67,8 @@ impl Node {
         self.halted
     }
 
-    /// What the next instruction of the node's task needs, in a machine of this program and fuel; None where the node has no task that
-    /// goes on.
+    /// What the next instruction of the node's task needs, in a machine of this program and fuel; None if the node has no
+    /// running task.
     pub fn needs(&self, program: &Program, fuel: u32) -> Option<Need>
         ensures { (C : Setting) → C.program ≡ program.now → C.fuel ≡ fuel → result ≡ need_now C self.now }
     {

@@ -60,7 +60,7 @@ pub(crate) fn start(program: &Program, phase: PhaseId, core: CoreId) -> Option<T
     }
 }
 
-/// Shows that a value goes from thread to thread, and may be shared.
+/// Compiles only if the type may be sent to another thread and shared with it.
 fn crosses<T: Send + Sync>(_value: &T) {}
 
 /// A context may be sent to another thread, and shared with it. Nobody calls this; the check of its body proves it.

@@ -1,4 +1,4 @@
-//! What a bank's messages come to, for proofs about the machine.
+//! Laws of a bank's messages, for proofs about the machine.
 //! A law is a function without effect; its contract states the theorem.
 ghost use Rattle.std.specs.Prelude.{◌≡◌, ℕ, false, None, ◌<◌, ◌≤◌, ◌==◌, Some, List, if◌then◌else◌, length};
 ghost use Rattle.dn_base.specs.declared.ids.CoreId.{CoreId};

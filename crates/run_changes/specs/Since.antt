@@ -26,7 +26,7 @@ changes_of a (c ∷ cs) = record { actor = a; changes = c ∷ cs } ∷ []
 abbrev pub pair_held : Pair → Change
 pair_held p = change.Holds p.0 p.1
 
--- of so many sets from one on: set by set, in each the least recently used first
+-- of this many sets from one on: set by set, in each the least recently used first
 abbrev pub held_from : Cache → ℕ → ℕ → List Change
 held_from c set zero = []
 held_from c set (suc n) = map pair_held (filter (in_set c.sets set) c.pairs) ++ held_from c (set + 1) n
@@ -54,7 +54,7 @@ abbrev pub core_since : ℕ → Option NodeParts → List ActorChanges
 core_since core None = []
 core_since core (Some n) = changes_of (actor.Core (record { 0 = core })) (node_since n)
 
--- of so many cores from one on
+-- of this many cores from one on
 abbrev pub cores_since : State → ℕ → ℕ → List ActorChanges
 cores_since S core zero = []
 cores_since S core (suc n) = core_since core (slice_get S.nodes core) ++ cores_since S (core + 1) n
@@ -80,7 +80,7 @@ free_look = record { holder = None; waiting = 0; kept = empty 0 }
 abbrev pub lock_since : State → ℕ → List ActorChanges
 lock_since S l = changes_of (home_of S l) (queue_change (record { 0 = l }) free_look (lock_at S l))
 
--- of so many locks from one on
+-- of this many locks from one on
 abbrev pub locks_since : State → ℕ → ℕ → List ActorChanges
 locks_since S l zero = []
 locks_since S l (suc n) = lock_since S l ++ locks_since S (l + 1) n

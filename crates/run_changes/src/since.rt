@@ -82,7 +82,7 @@ fn note_task(out: &mut Vec<Change>, task: Option<TaskState>) -> Result<(), Memor
     }
 }
 
-/// So many empty signatures of a phase.
+/// This many empty signatures of a phase.
 fn empty_signatures(alloc: Global, phase: PhaseId, locks: usize) -> Result<Vec<Signature>, Memory>
     ensures { IfOk result (λ signatures. signatures.items ≡ replicate locks (empty phase.0)) }
 {

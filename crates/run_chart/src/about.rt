@@ -51,7 +51,7 @@ fn about_mail(mail: Option<Mail>) -> About
     }
 }
 
-/// The code word at an address, of so many code words.
+/// The code word at an address, of this many code words.
 fn about_code(words: usize, pc: u32) -> About
     ensures { result ≡ about_code words pc }
 {

@@ -158,7 +158,7 @@ fn has_column(columns: Columns, rows: &[ChartRow], leaving: &[LeavingMail], bank
     }
 }
 
-/// For each of so many banks whether it has a column.
+/// For each of this many banks whether it has a column.
 ///
 /// # Errors
 /// `Memory` where there is no room.

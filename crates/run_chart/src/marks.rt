@@ -17,7 +17,7 @@ fn mark(marks: &mut Vec<bool>, first: u32, number: u32)
     }
 }
 
-/// Which of so many events from the first one on are on the chain. The chain is gone through once, and needn't be in order.
+/// Which of this many events from the first one on are on the chain. The chain is gone through once, and needn't be in order.
 ///
 /// # Errors
 /// `Memory` where there is no room.

@@ -1,4 +1,4 @@
-//! What the definitions come to, for proofs about documents and replays.
+//! Laws of the definitions, for proofs about documents and replays.
 //! A law is a function without effect; its contract states the theorem.
 ghost use Rattle.std.specs.Prelude.{◌≡◌, ◌≤◌, List, length};
 ghost use Rattle.std.specs.List.{All};

@@ -1,4 +1,4 @@
-//! What completing an instruction comes to, for proofs about machines that run tasks.
+//! Laws of completing an instruction, for proofs about machines that run tasks.
 //! A law is a function without effect; its contract states the theorem.
 ghost use Rattle.std.specs.Prelude.{◌≡◌, ℕ, ◌^◌, ◌==◌, ◌&&◌, ◌||◌, not, true, bit_or, bit_xor};
 ghost use Rattle.dn_base.specs.declared.ids.WordId.{WordId};

@@ -47,7 +47,7 @@ impl Notes {
         if let Some(grant) = stepped.granted {
             self.grants.push(grant)?;
         }
-        // for the proof alone: `add` requires that the count can rise, and no run has so many events
+        // for the proof alone: `add` requires that the count can rise, and no run has that many events
         if self.counts.count(stepped.kind) < u64::MAX {
             self.counts.add(stepped.kind);
         }
@@ -72,7 +72,7 @@ fn ending(ends: Vec<TaskEnd>, memory: Vec<u32>) -> Result<Ending, Memory> {
 }
 
 impl<M: EventMachine + Drop> ScriptedRun<M> {
-    /// The run of the initial machine, of so many cores and data words, before its first event.
+    /// The run of the initial machine, of this many cores and data words, before its first event.
     pub fn new(alloc: Global, machine: M, cores: u32, words: u32) -> ScriptedRun<M> {
         ScriptedRun {
             machine,

@@ -6,7 +6,7 @@ use std::thread;
 /// How often a worker in its turn looks for the other one, at most.
 const LOOKS: u32 = 100_000_000;
 
-/// So many looks after each other; then the worker lets others run.
+/// This many looks after each other; then the worker lets others run.
 const BATCH: u32 = 1024;
 
 /// Lets a worker go on once two of them stand in the turns of two banks at the same time, or once one has looked for the other

@@ -77,7 +77,7 @@ impl Pace {
         self.last = Some(now);
     }
 
-    /// Counts a call, up to which all threads have made so many.
+    /// Counts a call, up to which all threads have made this many.
     pub fn count(&mut self, seen: u64) {
         self.made.calls = self.made.calls.saturating_add(1);
         self.made.seen = seen;

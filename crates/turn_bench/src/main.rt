@@ -1,7 +1,7 @@
 //! Calls of one object and its history that several threads share: through a turn of `turn_lock`, and under std's `Mutex`.
 //!
 //! With no argument each thread makes a fixed number of calls, and the program prints how many there were. With one, MILLIS, each
-//! run lasts so many milliseconds, and it prints calls per second for 1, 2, 4, 8 and 17 threads, the medians of several runs taken
+//! run lasts this many milliseconds, and it prints calls per second for 1, 2, 4, 8 and 17 threads, the medians of several runs taken
 //! in turns, and how many times as long as under a `Mutex` a call takes through a turn; then, of one more run each way, in which
 //! each thread looks at the clock at each call, the fewest and the most calls that one thread made, and the longest time from one
 //! call of a thread to its next. With three, MILLIS THREADS turn or MILLIS THREADS mutex, it makes one run of one of the two, so
@@ -216,7 +216,7 @@ fn run_once<R: Threads + Wait + Clock + Print + Sync>(
     }
 }
 
-// So many calls in all, each thread as many as the others.
+// This many calls in all, each thread as many as the others.
 fn calls_of<R: Threads + Wait + Clock + Sync>(
     rt: &R,
     alloc: Global,

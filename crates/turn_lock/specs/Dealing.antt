@@ -12,7 +12,7 @@ use Rattle.turn_lock.specs.Passes.{Token, IsTold}
 use Rattle.turn_lock.specs.Standing.{dealer}
 use Rattle.turn_lock.specs.Turns.{HasSeen}
 
--- it may deal out so many more passes, the next with this number
+-- it may deal out this many more passes, the next with this number
 abbrev pub Deals : {S X E : Type 0} → X → ℕ → ℕ → Me S (View X E) → Type 0
 Deals x next spare me = me ≡ (dealer x next spare, [])
 

@@ -40,6 +40,6 @@ module _ {O I U : Type 0} where
   abbrev pub AreAllPasses : Sharing O → List (Token O I U) → Type 0
   AreAllPasses turn passes = (length passes ≡ turn.passes) × All (IsPassOf turn) passes
 
-  -- the history begins with what the pass has seen, and has of its calls just those that it made, in its order
+  -- the history begins with what the pass has seen, and has of its calls exactly those that it made, in its order
   abbrev pub IsTold : List (Entry O I U) → Token O I U → Type 0
   IsTold history pass = BeginsWith history pass.seen × (calls_by pass.number history ≡ pass.made)

@@ -44,7 +44,7 @@ module _ {X E : Type 0} where
   abbrev pub resting : Option X → Claim E → ℕ → View X E
   resting opening own next = record { opening = opening; own = own; next = next; spare = 0; stage = Idle; joined = [] }
 
-  -- the first seat, which has pass 0 and deals out the others: it may deal so many more, the next with this number
+  -- the first seat, which has pass 0 and deals out the others: it may deal this many more, the next with this number
   abbrev pub dealer : X → ℕ → ℕ → View X E
   dealer x next spare = record { opening = Some x; own = claim 0 [] []; next = next; spare = spare; stage = Idle; joined = [] }
 

@@ -32,7 +32,7 @@ const NAPS: u32 = 5;
 // How many looks the next in line takes without a pause, before it lets other threads run between two looks.
 const SPINS: u32 = 64;
 
-// After so many looks without the line having moved, a caller with three or more before it sleeps between two looks.
+// After this many looks without the line having moved, a caller with three or more before it sleeps between two looks.
 const YIELDS: u32 = 320;
 
 // The length of a first sleep in microseconds, unless the turn is passed on before the caller sleeps.
@@ -120,7 +120,7 @@ impl<O: Object> Turn<O> {
         self.table.shared.park_timeout(rt, SERVED, low, time);
     }
 
-    // Looks for an empty line, and lets time pass between two looks, each time twice as long. So whoever has just passed the
+    // Looks for an empty line, and lets time pass between two looks, each time twice as long. So a caller that has just passed the
     // turn on may take it again, with the object still in its processor's cache. After the last look it lets others run once, as
     // the turn's owner may want this processor. Says whether it found the line empty.
     fn finds_none(&self) -> bool {
@@ -151,7 +151,7 @@ impl<O: Object> Turn<O> {
         }
     }
 
-    // Lets time pass between two looks of a caller that stands in the line with so many before it. Only the next in line looks
+    // Lets time pass between two looks of a caller that stands in the line with this many before it. Only the next in line looks
     // again at once, since its turn comes as soon as one call ends; who stands after it lets others run, and who has three or
     // more before it sleeps where the line hasn't moved for long.
     fn pause<R: Wait>(&self, rt: &R, before: u64, served: u64, looks: u32) {

@@ -12,7 +12,7 @@ use std::io;
 use std::process::ExitCode;
 use std::rt::Env;
 
-/// Answers these command words and this source, and ends with the exit code of the status that is told.
+/// Answers these command words and this source, and ends with the exit code of the status.
 fn ended<S: Source, K: Sink>(
     alloc: Global,
     words: &[String],

@@ -1,4 +1,4 @@
-//! What the changes of a cache's list come to, for proofs about a core's entries.
+//! Laws of the changes of a cache's list, for proofs about a core's entries.
 //! A law is a function without effect; its contract states the theorem.
 ghost use Rattle.std.specs.Prelude.{◌≡◌, ◌≢◌, ℕ, ◌+◌, ◌%◌, ◌<◌, ◌≤◌, ◌==◌, ◌||◌, Bool, true, false, Some, None, List, [], if◌then◌else◌, count_by};
 ghost use Rattle.std.specs.Option.{option_map, is_some};

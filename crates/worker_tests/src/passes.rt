@@ -39,7 +39,7 @@ fn keeper(alloc: Global) -> KeeperActor
     KeeperActor::new(Keeper::new(1, 1), Vec::new(alloc), 0, 0)
 }
 
-/// The hall of the machine as a run begins, and its only pass.
+/// The hall of the machine when a run begins, and its only pass.
 fn hall(alloc: Global) -> Result<(Hall, Pass), Memory>
     ensures pass { IfOk result (λ r. IsHallPass r.0 r.1) }
     ensures places { IfOk result (λ r. (length r.0.banks ≡ 4) × (length r.0.ports ≡ 1)) }
@@ -71,7 +71,7 @@ fn unnoted(alloc: Global, bank: u32) -> BankLog
     }
 }
 
-/// A worker that owns the core, the banks and the keeper, as a run begins.
+/// A worker that owns the core, the banks and the keeper, when a run begins.
 fn crew(alloc: Global, context: &Context<'_>) -> Result<Crew, Memory>
     requires context { IsContext (setting context.now) }
     requires cores { (setting context.now).shape.cores ≡ 1 }

@@ -9,7 +9,7 @@ use message_net::{Actor, Event, EventKind, MailId};
 use rv_assembler::assemble;
 use std::alloc::Global;
 
-/// So many banks each machine has.
+/// This many banks each machine has.
 pub(crate) const BANKS: u32 = 4;
 
 /// A task stores 5 into the only word.

@@ -102,7 +102,7 @@ fn count<R: Threads + Wait + Print + Sync>(
     print_tally(rt, &tally, workers)
 }
 
-/// Prints how many events, rounds and passes of so many workers there were.
+/// Prints how many events, rounds and passes of this many workers there were.
 fn print_tally<R: Print>(rt: &R, tally: &Tally, workers: u32) -> io::Result<()> {
     let events = tally.events;
     let rounds = tally.rounds;

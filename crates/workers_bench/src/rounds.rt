@@ -10,7 +10,7 @@ use std::sync::Wait;
 use std::thread::Threads;
 use turn_lock::Entry;
 
-/// A round takes no machine that has made so many events.
+/// A round takes no machine that has made this many events.
 const MOST_EVENTS: u64 = 3_000_000_000;
 
 /// How many events and rounds there were, and the passes of each worker in all of them.

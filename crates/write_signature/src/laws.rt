@@ -1,4 +1,4 @@
-//! What the definitions of insertion and join come to, for proofs about signatures.
+//! Laws of the definitions of insertion and join, for proofs about signatures.
 //! A law is a function without effect; its contract states the theorem.
 ghost use Rattle.std.specs.Prelude.{◌≡◌, ◌≢◌, ℕ, ◌<◌, ◌≤◌, ◌||◌, max, false, IsTrue};
 ghost use Rattle.write_signature.specs.declared.signature.Signature.{Signature};
