@@ -66,8 +66,8 @@ pub enum KeeperOut {
 
 /// The keeper of the barrier with its inbox, the number of its next mail, and its clock.
 ///
-/// It is spent if its clock or the stamp of the picked mail is 2^63, or if its next mail would have the number 4,294,967,000
-/// (this project's profile).
+/// It is spent once its clock or the stamp of the picked mail has reached 2^63, or the number of its next mail 4,294,967,000 (this
+/// project's profile).
 #[derive(Debug, Drop)]
 pub struct KeeperActor {
     keeper: Keeper,

@@ -25,7 +25,7 @@ pub enum Mode {
 #[derive(Clone, Copy, Debug, PartialEq, Eq)]
 pub struct Options {
     pub mode: Mode,
-    /// The seed of the generator that picks the events. It has no effect with more than one worker.
+    /// The seed of the generators that pick events. With more than one worker it doesn't fix the order of events.
     pub seed: u32,
     /// Host threads, from 1 to 16.
     pub workers: u32,

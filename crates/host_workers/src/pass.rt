@@ -16,7 +16,7 @@ use std::sync::Wait;
 
 /// One pass of a worker over the hall. Each of its cores has its turn: it takes a mail and handles it, and then makes its own
 /// event. Then each of its banks makes a step, and so does the keeper, if it is the worker's. Each mail that an event sends is
-/// posted at once. A core whose clock is at 2^63, or whose next mail would have the number 4,294,967,000, is left alone.
+/// posted at once. A core is left alone once its clock has reached 2^63, or the number of its next mail 4,294,967,000.
 ///
 /// Returns the number of events that the pass made.
 ///
