@@ -8,6 +8,7 @@ mod charts;
 mod command;
 mod documents;
 mod options;
+mod pages;
 mod program;
 mod reading;
 mod serving;
@@ -16,7 +17,7 @@ mod status;
 
 pub use answering::{Output, answer};
 pub use command_words::WordsFault;
-pub use options::{AccountOptions, ChartOptions, StateOptions, View};
+pub use options::{AccountOptions, ChartOptions, PageOptions, StateOptions, View};
 pub use program::view_program;
 pub use reading::read_words;
 pub use serving::view_main;
