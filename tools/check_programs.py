@@ -3,10 +3,11 @@
 .ci/run does, `tools/check_programs.py`. With `--quick` it takes whatever the launchers run, also builds without proof.
 
 It looks that the command words are handed on, that each exit code from 0 to 7 comes out, and 9 for words that aren't UTF-8, that a
-run goes by a pipe into its picture, its account and its states, that all three are those of tools/reference.py, that explained answers are those of
-tools/explained.txt, that claims are judged as tools/reference.py judges them, that standard error helps, that the
-tutorial and the pages on accounts and states show what their commands print, that the numbers of accounts, of answers to exercises and at the heads of
-examples are those of runs, and that the proved programs are used exactly where they were made of these sources. What a run has to write comes from tools/reference.py. It names each check that fails, and ends with a count."""
+run goes by a pipe into its picture, its account, its states and its page, that all are those of tools/reference.py, that explained
+answers are those of tools/explained.txt, that claims are judged as tools/reference.py judges them, that standard error helps, that the
+tutorial and the documents on accounts, states and pages show what their commands print, that the numbers of accounts, of answers to
+exercises and at the heads of examples are those of runs, and that the proved programs are used exactly where they were made of these
+sources. What a run has to write comes from tools/reference.py. It names each check that fails, and ends with a count."""
 import importlib.util
 import os
 import pathlib
@@ -105,7 +106,7 @@ def every_exit_code_comes():
         wanted = b"refused check phase 0 plain-conflict"
         check(f"{program[0]}: exit code 2", ran.returncode == 2 and ran.stdout.startswith(wanted), ran.stdout)
     for program in programs("view"):
-        for mode in ("chart", "account", "state"):
+        for mode in ("chart", "account", "state", "page"):
             ran = run(program + ["--mode", mode], b"no document\n")
             check(f"{program[0]} --mode {mode}: exit code 2", (ran.returncode, ran.stdout) == (2, b"refused trace head\n"))
 
@@ -126,7 +127,7 @@ def a_run_is_drawn_by_a_pipe():
             check(f"{view[0]}: {example}, {rows} rows from event {first}", (ran.returncode, ran.stdout) == (0, wanted))
             check(f"{example}: fewer banks", not used or wanted != reference.Chart(document, first, rows).text().encode())
         document = run(denovo + ["--mode", "trace"], text_of("store-five")).stdout
-        for mode in ("chart", "account"):
+        for mode in ("chart", "account", "page"):
             ran = run(view + ["--mode", mode], document[:document.rindex(b"\n", 0, -1) + 1].replace(b"\nevents 10\n", b"\nevents 9\n"))
             wanted = (2, b"refused trace incomplete\n")
             check(f"{view[0]} --mode {mode}: a run without its last event isn't seen", (ran.returncode, ran.stdout) == wanted)
@@ -153,18 +154,20 @@ def a_chart_begins_at_an_event():
 def each_mode_has_its_own_options():
     """A mode leaves the options of others unused; each has to be in its range."""
     document = run(programs("denovo")[0] + ["--mode", "trace"], text_of("store-five")).stdout
-    ranges = (("--rows", "0"), ("--rows", "4097"), ("--columns", "none"), ("--tick-core", "0"), ("--tick-mail", "1000001"), ("--by", "word"),
+    ranges = (("--rows", "0"), ("--rows", "20001"), ("--columns", "none"), ("--tick-core", "0"), ("--tick-mail", "1000001"), ("--by", "word"),
               ("--form", "svg"), ("--event", "4294967296"))
     for view in programs("view"):
         for mode, other in (("chart", ["--by", "core", "--form", "csv", "--event", "99"]),
                             ("account", ["--first", "99", "--rows", "7", "--columns", "used", "--tick-bank", "2", "--event", "99"]),
-                            ("state", ["--first", "99", "--rows", "7", "--columns", "used", "--tick-bank", "2", "--by", "core", "--form", "csv"])):
+                            ("state", ["--first", "99", "--rows", "4097", "--columns", "used", "--tick-bank", "2", "--by", "core", "--form", "csv"]),
+                            ("page", ["--columns", "used", "--by", "core", "--form", "csv", "--event", "99"])):
             plain = run([*view, "--mode", mode], document)
             check(f"{view[0]} --mode {mode} {' '.join(other)}", run([*view, "--mode", mode, *other], document).stdout == plain.stdout)
             for words in ranges:
                 ran = run([*view, "--mode", mode, *words], document)
                 check(f"{view[0]} --mode {mode} {' '.join(words)}", (ran.returncode, ran.stdout) == (1, b"refused usage\n"), ran.returncode)
-        for words in (("--mode", "page"), ("--mode", "states"), ("--mode", ""), ("--rows", "x"), ("--first", "-1"), ("--by", "run", "--by", "run")):
+        for words in (("--mode", "pages"), ("--mode", "states"), ("--mode", ""), ("--rows", "4097"), ("--rows", "x"), ("--first", "-1"),
+                      ("--by", "run", "--by", "run")):
             ran = run([*view, *words], document)
             check(f"{view[0]} {' '.join(words)}", (ran.returncode, ran.stdout) == (1, b"refused usage\n"), ran.returncode)
         for words in (("--mode", "chart"), ("--rows", "1000"), ("--rows=4096", "--tick-bank", "10"), ("--columns=all",), ("--by", "run", "--form=text")):
@@ -201,9 +204,42 @@ def accounts_are_those_of_the_reference():
     for text in (text_of("conflict"), b"nonsense\n"):
         document = written(reference.document(text.decode(), {"banks": 1, "sets": 1, "ways": 1, "fuel": 1}, []))
         replay = run(denovo + ["--mode", "replay"], document)
-        for mode in ("chart", "account", "state"):
+        for mode in ("chart", "account", "state", "page"):
             ran = run(programs("view")[0] + ["--mode", mode], document)
             check(f"a refused text, in the mode {mode}", (ran.returncode, ran.stdout) == (2, replay.stdout) and replay.returncode == 2, ran.stdout)
+
+
+def page_with(view, data):
+    """What a program that makes these data of a page writes: the launcher puts them into the page."""
+    return data if view != ["./view"] else pathlib.Path("tools/page.html").read_bytes().replace(b"@@RUN@@", data)
+
+
+def pages_are_those_of_the_reference():
+    """Data of pages, of whole runs, from an event on and with other ticks. Behind the last event there is no page."""
+    denovo = programs("denovo")[0]
+    runs = (("stale-copy", []), ("signature", ["--banks", "2"]), ("crossed-locks", ["--seed", "1"]), ("trap", []), ("endless", []), ("touched-bit", []),
+            ("constants", []), ("eviction-race", ["--sets", "1", "--ways", "1"]), ("guarded-words", ["--seed", "7", "--sets", "1", "--ways", "2"]))
+    for example, words in runs if kind == "proved" else runs[:3]:
+        document = run(denovo + ["--mode", "trace"] + words, text_of(example)).stdout
+        last = int(re.search(rb"^events (\d+)$", document, re.M)[1]) - 1
+        for view in programs("view"):
+            for first, rows, ticks in ((0, 4096, (1, 10, 5)), (last // 2, 7, (1, 10, 5)), (last, 20000, (1, 10, 5)), (3, 2, (7, 1, 300))):
+                given = ["--first", str(first), "--rows", str(rows), "--tick-core", str(ticks[0]), "--tick-bank", str(ticks[1]), "--tick-mail", str(ticks[2])]
+                wanted = reference.page(document, "", first, rows, reference.ticks_by(*ticks))[1].encode()
+                ran = run(view + ["--mode", "page"] + given, document)
+                check(f"{view[0]}: the page of {example} {' '.join(words + given)}", (ran.returncode, ran.stdout) == (0, page_with(view, wanted)), ran.returncode)
+            wanted = reference.page(document, "", 0, 4096, reference.ticks_by(1, 10, 5))[1].encode()
+            ran = run(view + ["--mode", "page"], document)
+            check(f"{view[0]}: the page of {example} {' '.join(words)}", (ran.returncode, ran.stdout) == (0, page_with(view, wanted)), ran.returncode)
+            ran = run(view + ["--mode", "page", "--first", str(last + 1)], document)
+            check(f"{view[0]}: a page of {example} behind the last event", (ran.returncode, ran.stdout) == (1, b"refused usage\n"), ran.returncode)
+    for view in programs("view"):
+        document = run(denovo + ["--mode", "trace"], b".region m, 1\n").stdout
+        wanted = reference.page(document, "", 0, 4096, reference.ticks_by(1, 10, 5))[1].encode()
+        ran = run(view + ["--mode", "page"], document)
+        check(f"{view[0]}: the page of a run without an event", (ran.returncode, ran.stdout) == (0, page_with(view, wanted)), ran.returncode)
+        ran = run(["sh", "-c", '"$@" >&-', "sh", *view, "--mode", "page"], document)
+        check(f"{view[0]}: a page on a closed standard output", ran.returncode == 7, ran.returncode)
 
 
 def states_are_those_of_the_reference():
@@ -600,16 +636,17 @@ def by_the_reference(command):
 
 def pages_show_what_is_printed():
     """Each block behind a command of these pages is a part of what the command prints, and for an account of what it has to print."""
-    for page in ("docs/TUTORIAL.md", "docs/ACCOUNT.md", "docs/STATE.md", "docs/COMPARING.md"):
+    for page in ("docs/TUTORIAL.md", "docs/ACCOUNT.md", "docs/STATE.md", "docs/PAGE.md", "docs/COMPARING.md"):
         text = pathlib.Path(page).read_text()
         for command, block in re.findall(r"^    ((?:\./denovo|examples/)[^\n]*)\n\n```\n(.*?)^```$", text, re.M | re.S):
             ran = run(["bash", "-c", command])
             check(f"{page}: {command}", block.encode() in ran.stdout, ran.stdout[:300])
             wanted = by_the_reference(command)
             check(f"{page}: {command}, by tools/reference.py", wanted is None or ran.stdout == wanted, ran.stdout[:300])
-        for command in re.findall(r"^    (\./denovo.*) > \S+\.svg$", text, re.M):
+        for command, kind_of_file in re.findall(r"^    (\./denovo.*) > \S+\.(svg|html)$", text, re.M):
             ran = run(["bash", "-o", "pipefail", "-c", command])
-            check(f"{page}: {command}", ran.returncode == 0 and ran.stdout.startswith(b"<svg"))
+            head = {"svg": b"<svg", "html": b"<!DOCTYPE html>"}[kind_of_file]
+            check(f"{page}: {command}", ran.returncode == 0 and ran.stdout.startswith(head))
 
 
 def the_first_page_shows_a_whole_answer():
@@ -714,6 +751,7 @@ a_chart_begins_at_an_event()
 each_mode_has_its_own_options()
 accounts_are_those_of_the_reference()
 states_are_those_of_the_reference()
+pages_are_those_of_the_reference()
 answers_are_explained()
 answers_of_other_texts_are_refused()
 answers_before_any_text_are_taken()

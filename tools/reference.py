@@ -1269,6 +1269,12 @@ def slowest(behind, ticks):
     return most
 
 
+def ticks_by(core, bank, mail):
+    """The ticks of each kind of event, where a core's own event, one of a bank and another take so many."""
+    return {kind: core if kind in ("instr", "evict", "arrive") else
+            bank if kind in ("read-req", "reg-req", "write-back", "acquire", "release") else mail for kind in KINDS}
+
+
 def timing(machine, seed, ticks):
     """The longest chain of the events of a seed's run, as the lines of the mode time."""
     return timed(machine, lambda trace: machine.run(seed, trace), ticks)
@@ -1501,9 +1507,7 @@ class Chart:
 
     def longest(self, sizes, ticks):
         """The numbers of the events of the longest chain, where a core's own event, one of a bank and another take so many ticks."""
-        core, bank, mail = ticks
-        kinds = {kind: core if kind in ("instr", "evict", "arrive") else
-                 bank if kind in ("read-req", "reg-req", "write-back", "acquire", "release") else mail for kind in KINDS}
+        kinds = ticks_by(*ticks)
         machine = Machine(self.program, *sizes)
 
         def again(trace):
@@ -3003,8 +3007,7 @@ def command(words):
         if words[0] == "states":
             print("".join("\n".join(lines) + "\n\n" for lines in states(data, first, most)), end="")
             return 0
-        status, out = page(data, "".join(words[3:4]), first, most, dict.fromkeys(KINDS, 5) | dict.fromkeys(KINDS[:3], 1)
-                           | dict.fromkeys(["read-req", "reg-req", "write-back", "acquire", "release"], 10))
+        status, out = page(data, "".join(words[3:4]), first, most, ticks_by(1, 10, 5))
         print(out, end="")
         return status
     if words[:1] == ["script"]:

@@ -42,21 +42,22 @@ module _ (document text : List ℕ) (t : Trace) (P : ProgramParts) where
       let here : L.places ≡ text_places t.text = places ∙ ap text_places same in
       rw (sym one, sym here) refl
 
-  pub kept-run : (run : RunRecord) (program again : ProgramParts) (L : Located) → IsDocument document t → text ≡ t.text → source text ≡ Ok P → IsChecked P → source text ≡ Ok program → source text ≡ Ok again
+  pub kept-run : (copy : List ℕ) (run : RunRecord) (program again : ProgramParts) (L : Located) → copy ≡ text → IsDocument document t → text ≡ t.text → source text ≡ Ok P → IsChecked P → source text ≡ Ok program → source text ≡ Ok again
       → L ≡ located P t.text → IsRunTold P t run
-      → HasKeptRun document (λ M sizes r. ◌≡◌ {A = KeptRun} (record { sizes = t.shape; run = run; program = program; again = again; located = L }) (kept_run_of M sizes r))
-  kept-run run program again L told same is checked first second here tells =
+      → HasKeptRun document (λ M x r. ◌≡◌ {A = KeptRun} (record { sizes = t.shape; text = copy; run = run; program = program; again = again; located = L }) (kept_run_of M x r))
+  kept-run copy run program again L copied told same is checked first second here tells =
       let one : program ≡ P = cc in
       let other : again ≡ P = cc in
+      let beside : copy ≡ t.text = copied ∙ same in
       record {
         trace = t;
         is = told;
-        holds = record { program = P; is = ap source (sym same) ∙ is; checked = checked; holds = record { run = run; told = tells; holds = rw (one, other, here) refl } };
+        holds = record { program = P; is = ap source (sym same) ∙ is; checked = checked; holds = record { run = run; told = tells; holds = rw (one, other, here, beside) refl } };
       }
 
-  pub viewable : (run : RunRecord) (program again : ProgramParts) (L : Located) → IsDocument document t → source text ≡ Ok P → source text ≡ Ok program → source text ≡ Ok again → source text ≡ Ok L.program → IsRunTold P t run
-      → IsPrintable run → IsViewable (record { sizes = t.shape; run = run; program = program; again = again; located = L })
-  viewable run program again L told is first second third tells printable =
+  pub viewable : (copy : List ℕ) (run : RunRecord) (program again : ProgramParts) (L : Located) → IsDocument document t → source text ≡ Ok P → source text ≡ Ok program → source text ≡ Ok again → source text ≡ Ok L.program → IsRunTold P t run
+      → IsPrintable run → IsViewable (record { sizes = t.shape; text = copy; run = run; program = program; again = again; located = L })
+  viewable copy run program again L told is first second third tells printable =
       let one : program ≡ P = cc in
       let same : again ≡ program = cc in
       let beside : L.program ≡ program = cc in
@@ -85,8 +86,8 @@ handed-on (Ok x) s Holds is holds = tt
 handed-on (Err other) s Holds is holds = subst Holds (sym is) holds
 
 -- what holds of the run that is handed on holds of the document's
-pub holds-of : (document : List ℕ) (k : KeptRun) (Holds : KeptRun → Type 0) → HasKeptRun document (λ L sizes run. k ≡ kept_run_of L sizes run) → Holds k
-    → HasKeptRun document (λ L sizes run. Holds (kept_run_of L sizes run))
+pub holds-of : (document : List ℕ) (k : KeptRun) (Holds : KeptRun → Type 0) → HasKeptRun document (λ L t run. k ≡ kept_run_of L t run) → Holds k
+    → HasKeptRun document (λ L t run. Holds (kept_run_of L t run))
 holds-of document k Holds has holds =
     record {
       trace = has.trace;

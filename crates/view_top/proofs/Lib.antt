@@ -1,5 +1,6 @@
 pub mod Commands
 pub mod Kept
 pub mod Pictures
+pub mod Paged
 pub mod Counted
 pub mod Shown

@@ -27,6 +27,8 @@ use Rattle.run_chart.specs.declared.drawing.Range.{Range}
 use Rattle.run_chart.specs.Charts.{IsChartOf}
 use Rattle.state_text.specs.declared.answer.StateAnswer.{StateAnswer}
 use Rattle.state_text.specs.Reached.{IsAnswerOf}
+use Rattle.page_data.specs.declared.page.Page.{Page}
+use Rattle.page_data.specs.Page.{IsPageOf}
 use Rattle.front_end.specs.Texts.{HasChecked, IsUnfit, usage_line}
 use Rattle.dn_top.specs.Answers.{IsRefusedDocument}
 use Rattle.dn_top.specs.Documents.{HasTrace, IsNoDocument, IsRunTold, shape_told}
@@ -37,6 +39,7 @@ use Rattle.view_top.specs.declared.options.View.TheVariants as view
 use Rattle.view_top.specs.declared.options.ChartOptions.{ChartOptions}
 use Rattle.view_top.specs.declared.options.AccountOptions.{AccountOptions}
 use Rattle.view_top.specs.declared.options.StateOptions.{StateOptions}
+use Rattle.view_top.specs.declared.options.PageOptions.{PageOptions}
 use Rattle.view_top.specs.declared.status.ViewStatus.{ViewStatus}
 use Rattle.view_top.specs.declared.status.ViewStatus.TheVariants as status
 
@@ -52,10 +55,10 @@ pub record HasToldRun (P : ProgramParts) (t : Trace) (Holds : RunRecord → Type
 abbrev pub located : ProgramParts → List ℕ → Located
 located P text = record { program = P; places = text_places text }
 
--- the bytes are the document of a complete run of a checked program, and this holds of the program in its text, of the
--- machine's size and fuel, and of the run
-abbrev pub HasKeptRun : List ℕ → (Located → TraceShape → RunRecord → Type 0) → Type 0
-HasKeptRun document Holds = HasTrace document (λ t. HasChecked t.text (λ P. HasToldRun P t (Holds (located P t.text) t.shape)))
+-- the bytes are the document of a complete run of a checked program, and this holds of the program in its text, of what the document tells,
+-- and of the run
+abbrev pub HasKeptRun : List ℕ → (Located → Trace → RunRecord → Type 0) → Type 0
+HasKeptRun document Holds = HasTrace document (λ t. HasChecked t.text (λ P. HasToldRun P t (Holds (located P t.text) t)))
 
 -- ---- what is written
 
@@ -91,13 +94,13 @@ pub record IsPicture (L : Located) (s : TraceShape) (o : ChartOptions) (events :
   pub is : IsChartOf L.program (shape_told L.program s) s.fuel events (range_for o) (numbers_in timing.links.items) o.columns chart
   pub answer : out ≡ made (svg_of chart L)
 
--- the picture would begin after the run's last event, so the words are refused
-pub record IsPastEnd (o : ChartOptions) (events : List Event) (out : Output) : Type 0 where
-  pub behind : last_number events < o.first
+-- the first row, or the page's first event, would be behind the run's last event, and the words are refused
+pub record IsPastEnd (first : ℕ) (events : List Event) (out : Output) : Type 0 where
+  pub behind : last_number events < first
   pub answer : out ≡ usage
 
 abbrev pub IsDrawn : Located → TraceShape → ChartOptions → RunRecord → Output → Type 0
-IsDrawn L s o r out = IsPicture L s o r.events out ⊎ IsPastEnd o r.events out
+IsDrawn L s o r out = IsPicture L s o r.events out ⊎ IsPastEnd o.first r.events out
 
 -- ---- an account
 
@@ -143,13 +146,49 @@ IsStateShown P t o out = IsShown P t o out ⊎ IsBehindEnd t o out
 abbrev pub IsWithoutProgram : List ℕ → List ℕ → Type 0
 IsWithoutProgram document line = IsNoDocument document line ⊎ HasTrace document (λ t. IsUnfit t.text line)
 
+-- ---- a page
+
+-- the ticks that options give to the kinds of event, as a chart's do
+abbrev pub page_ticks : PageOptions → Ticks
+page_ticks o = ticks_by o.tick_core o.tick_bank o.tick_mail
+
+-- the page has no title, the text, how the run ended, the counts of its events, this timing of it by the options' ticks, and those events
+-- that the options ask for
+pub record IsPageFor (o : PageOptions) (text : List ℕ) (r : RunRecord) (timing : Timing) (p : Page) : Type 0 where
+  pub name : p.name.now ≡ []
+  pub source : p.source.now ≡ text
+  pub ending : p.ending.now ≡ r.ending
+  pub counts : p.counts ≡ r.counts
+  pub tick_core : p.tick_core ≡ o.tick_core
+  pub tick_bank : p.tick_bank ≡ o.tick_bank
+  pub tick_mail : p.tick_mail ≡ o.tick_mail
+  pub timed : p.timing.now ≡ timing
+  pub first : p.first ≡ o.first
+  pub most : p.most ≡ o.rows
+
+-- the output is the data of that page, for the longest chain by the options' ticks: these bytes and no others. The HTML that a browser needs
+-- around them is the same for every run, and isn't written by the program
+pub record IsPageData (P : ProgramParts) (s : TraceShape) (text : List ℕ) (o : PageOptions) (r : RunRecord) (out : Output) : Type 0 where
+  pub within : o.first ≤ last_number r.events
+  pub timing : Timing
+  pub times : IsTimingOf P (shape_told P s) s.fuel r.events (page_ticks o) timing
+  pub page : Page
+  pub asked : IsPageFor o text r timing page
+  pub bytes : List ℕ
+  pub is : IsPageOf P (shape_told P s) s.fuel r.events page bytes
+  pub answer : out ≡ made bytes
+
+abbrev pub IsPaged : ProgramParts → TraceShape → List ℕ → PageOptions → RunRecord → Output → Type 0
+IsPaged P s text o r out = IsPageData P s text o r out ⊎ IsPastEnd o.first r.events out
+
 -- ---- a row for each mode
 
 -- what each mode makes of a document
 abbrev pub view_made : View → List ℕ → Output → Type 0
-view_made (view.Chart o) document out = HasKeptRun document (λ L s r. IsDrawn L s o r out)
-view_made (view.Account o) document out = HasKeptRun document (λ L s r. IsAccount L.program s o r out)
+view_made (view.Chart o) document out = HasKeptRun document (λ L t r. IsDrawn L t.shape o r out)
+view_made (view.Account o) document out = HasKeptRun document (λ L t r. IsAccount L.program t.shape o r out)
 view_made (view.State o) document out = HasTrace document (λ t. HasChecked t.text (λ P. IsStateShown P t o out))
+view_made (view.Page o) document out = HasKeptRun document (λ L t r. IsPaged L.program t.shape t.text o r out)
 
 -- which documents each mode refuses, and with which line: those that the mode replay of denovo refuses, with its line. For a
 -- state the events needn't be a run
@@ -157,6 +196,7 @@ abbrev pub view_refused : View → List ℕ → List ℕ → Type 0
 view_refused (view.Chart o) document line = IsRefusedDocument document line
 view_refused (view.Account o) document line = IsRefusedDocument document line
 view_refused (view.State o) document line = IsWithoutProgram document line
+view_refused (view.Page o) document line = IsRefusedDocument document line
 
 -- ---- answers
 

@@ -1,5 +1,5 @@
--- The command: its options, which command words it takes, and what they ask for.
-use Rattle.std.specs.Prelude.{pos, ℕ, List, codes, bytes_eq, Option, Some, None, option_and_then, if◌then◌else◌}
+-- The command: its options, which lists of words it takes, and what they ask for.
+use Rattle.std.specs.Prelude.{pos, ℕ, List, codes, bytes_eq, Option, Some, None, option_and_then, option_map, if◌then◌else◌}
 use Rattle.std.specs.Int.{IsInRange}
 use Rattle.clap.specs.Walk.{Row, Rule, Text, first_of}
 use Rattle.clap.specs.Simple.{App, new_app, new_rule, with_rule}
@@ -17,6 +17,7 @@ use Rattle.view_top.specs.declared.options.View as view
 use Rattle.view_top.specs.declared.options.ChartOptions.{ChartOptions}
 use Rattle.view_top.specs.declared.options.AccountOptions.{AccountOptions}
 use Rattle.view_top.specs.declared.options.StateOptions.{StateOptions}
+use Rattle.view_top.specs.declared.options.PageOptions.{PageOptions}
 
 -- ---- the command
 
@@ -60,12 +61,11 @@ columns_named text =
 abbrev pub columns_in : List Row → Option Columns
 columns_in rows = option_and_then columns_named (first_of (codes "columns") rows)
 
--- what a chart is asked, where each number is in its range
-unfoldable pub chart_options_from : List Row → Option ChartOptions
-chart_options_from rows =
+-- what a chart with these columns is asked, where each number is in its range
+unfoldable pub chart_options_from : List Row → Columns → Option ChartOptions
+chart_options_from rows shown =
     option_and_then (λ (first : ℕ).
     option_and_then (λ (most : ℕ).
-    option_and_then (λ (shown : Columns).
     option_and_then (λ (tick_core : ℕ).
     option_and_then (λ (tick_bank : ℕ).
     option_and_then (λ (tick_mail : ℕ).
@@ -73,7 +73,6 @@ chart_options_from rows =
     (number_in rows (codes "tick-mail") 1 1000000))
     (number_in rows (codes "tick-bank") 1 1000000))
     (number_in rows (codes "tick-core") 1 1000000))
-    (columns_in rows))
     (rows_in rows 1000 4096))
     (number_in rows (codes "first") 0 4294967295)
 
@@ -114,25 +113,44 @@ state_options_from rows =
     Some (record { event = event }))
     (number_in rows (codes "event") 0 4294967295)
 
+-- what a page is asked, where each number is in its range
+unfoldable pub page_options_from : List Row → Option PageOptions
+page_options_from rows =
+    option_and_then (λ (first : ℕ).
+    option_and_then (λ (most : ℕ).
+    option_and_then (λ (tick_core : ℕ).
+    option_and_then (λ (tick_bank : ℕ).
+    option_and_then (λ (tick_mail : ℕ).
+    Some (record { first = first; rows = most; tick_core = tick_core; tick_bank = tick_bank; tick_mail = tick_mail }))
+    (number_in rows (codes "tick-mail") 1 1000000))
+    (number_in rows (codes "tick-bank") 1 1000000))
+    (number_in rows (codes "tick-core") 1 1000000))
+    (rows_in rows 4096 20000))
+    (number_in rows (codes "first") 0 4294967295)
+
 -- the mode that a text names, with what its own options ask for
-abbrev pub view_named : ChartOptions → AccountOptions → StateOptions → Text → Option View
-view_named chart account state text =
-    if bytes_eq text (codes "chart") then Some (view.TheVariants.Chart chart)
+abbrev pub view_named : Option ChartOptions → AccountOptions → StateOptions → PageOptions → Text → Option View
+view_named chart account state page text =
+    if bytes_eq text (codes "chart") then option_map view.TheVariants.Chart chart
     else if bytes_eq text (codes "account") then Some (view.TheVariants.Account account)
     else if bytes_eq text (codes "state") then Some (view.TheVariants.State state)
+    else if bytes_eq text (codes "page") then Some (view.TheVariants.Page page)
     else None
 
--- what the values of all options ask for; each must be in its range, even if the mode ignores it
+-- what the values of all options ask for: each is in its range, also where the mode leaves it unused; the rows of a chart are fewer than those
+-- of a page
 unfoldable pub view_from : List Row → Option View
 view_from rows =
-    option_and_then (λ (chart : ChartOptions).
+    option_and_then (λ (shown : Columns).
     option_and_then (λ (account : AccountOptions).
     option_and_then (λ (state : StateOptions).
-    option_and_then (view_named chart account state)
+    option_and_then (λ (page : PageOptions).
+    option_and_then (view_named (chart_options_from rows shown) account state page)
     (first_of (codes "mode") rows))
+    (page_options_from rows))
     (state_options_from rows))
     (account_options_from rows))
-    (chart_options_from rows)
+    (columns_in rows)
 
 -- what these words ask for, if the command takes them
 unfoldable pub view_of : List Text → Option View
@@ -147,8 +165,16 @@ pub record IsChartInRange (o : ChartOptions) : Type 0 where
   pub tick_bank : IsInRange 1 1000000 o.tick_bank
   pub tick_mail : IsInRange 1 1000000 o.tick_mail
 
--- each number of a mode is in its range; an account and a state have no such number
+-- each number of a page is
+pub record IsPageInRange (o : PageOptions) : Type 0 where
+  pub rows : IsInRange 1 20000 o.rows
+  pub tick_core : IsInRange 1 1000000 o.tick_core
+  pub tick_bank : IsInRange 1 1000000 o.tick_bank
+  pub tick_mail : IsInRange 1 1000000 o.tick_mail
+
+-- each number of a mode is; an account and a state have none that is limited
 abbrev pub IsViewInRange : View → Type 0
 IsViewInRange (view.TheVariants.Chart o) = IsChartInRange o
 IsViewInRange (view.TheVariants.Account o) = Unit {0}
 IsViewInRange (view.TheVariants.State o) = Unit {0}
+IsViewInRange (view.TheVariants.Page o) = IsPageInRange o

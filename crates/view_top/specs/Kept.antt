@@ -3,15 +3,15 @@ use Rattle.std.specs.Prelude.{◌≡◌, ◌≤◌, length}
 use Rattle.text_places.specs.declared.places.Located.{Located}
 use Rattle.dn_machine.specs.declared.record.RunRecord.{RunRecord}
 use Rattle.dn_machine.specs.Settings.{IsRunOn}
-use Rattle.run_replay.specs.declared.trace.TraceShape.{TraceShape}
+use Rattle.run_replay.specs.declared.trace.Trace.{Trace}
 use Rattle.run_replay.specs.Document.{IsTraceShape}
 use Rattle.dn_top.specs.Documents.{shape_told}
 use Rattle.dn_top.specs.Runs.{IsPrintable}
 use Rattle.view_top.specs.declared.documents.KeptRun.{KeptRun}
 
--- the program is there twice, and once more with its text
-abbrev pub kept_run_of : Located → TraceShape → RunRecord → KeptRun
-kept_run_of L sizes run = record { sizes = sizes; run = run; program = L.program; again = L.program; located = L }
+-- the program is there twice, and once more in its text
+abbrev pub kept_run_of : Located → Trace → RunRecord → KeptRun
+kept_run_of L t run = record { sizes = t.shape; text = t.text; run = run; program = L.program; again = L.program; located = L }
 
 -- what is known of such a run, so that a mode may make its events again and print it
 pub record IsViewable (k : KeptRun) : Type 0 where

@@ -67,6 +67,7 @@ fn account(alloc: Global, options: &AccountOptions, kept: KeptRun) -> Result<Out
 {
     let KeptRun {
         sizes,
+        text: _,
         run,
         program,
         again,

@@ -6,6 +6,7 @@ ghost use Rattle.view_top.specs.Command.{IsViewInRange};
 use crate::accounts::account_document;
 use crate::charts::draw_document;
 use crate::options::View;
+use crate::pages::page_document;
 use crate::states::show_state;
 use crate::status::ViewStatus;
 use dn_base::{Memory, Sequence};
@@ -54,6 +55,7 @@ fn view_made(alloc: Global, view: &View, document: &[u8]) -> Result<Output, Stop
         View::Chart(options) => draw_document(alloc, options, document),
         View::Account(options) => account_document(alloc, options, document),
         View::State(options) => show_state(alloc, options, document),
+        View::Page(options) => page_document(alloc, options, document),
     }
 }
 
@@ -69,6 +71,10 @@ fn view_made(alloc: Global, view: &View, document: &[u8]) -> Result<Output, Stop
 /// mode also takes documents whose events are no complete run. If one of the events before the asked one may not come, the
 /// state is the one before that event, with the status `Unreached`. If the document has fewer events than the number that is
 /// asked for, the words are refused.
+///
+/// In the mode page it is the data of the page of the run, as one JSON text: without a title, with the events that the options ask for and
+/// the run's longest chain by the options' ticks. Where the page's first event would be behind the run's last one, the words are refused.
+/// The HTML around the data is no part of the answer: the launcher of the program writes it, from `tools/page.html`.
 ///
 /// # Errors
 /// `Memory` where there is no room for the run, for what is made of it or for the text.

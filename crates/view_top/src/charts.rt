@@ -47,7 +47,7 @@ fn chart_ticks(options: &ChartOptions) -> Ticks
 }
 
 /// The number of the last event; 0 where there is none.
-fn last_number(events: &[Event]) -> usize
+pub(crate) fn last_number(events: &[Event]) -> usize
     ensures { result ≡ last_number events.now }
 {
     events.len().saturating_sub(1)
@@ -116,6 +116,7 @@ fn draw(alloc: Global, options: &ChartOptions, kept: KeptRun) -> Result<Output, 
 {
     let KeptRun {
         sizes,
+        text: _,
         run,
         program,
         again,

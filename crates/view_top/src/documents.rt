@@ -9,7 +9,7 @@ ghost use Rattle.dn_top.specs.Documents.{shape_told};
 ghost use Rattle.view_top.specs.Answers.{HasKeptRun};
 ghost use Rattle.view_top.specs.Kept.{kept_run_of, IsViewable};
 
-use dn_base::{Memory, Shape};
+use dn_base::{Memory, Sequence, Shape};
 use dn_top::{RunRecord, run_told, shape_told, trace_in};
 use effect_checker::Checked;
 use front_end::{Stop, checked_of};
@@ -17,11 +17,12 @@ use run_replay::TraceShape;
 use std::alloc::Global;
 use text_places::{Located, located_program};
 
-/// The run of a document, with the size of its machine and its program. The program is there twice, since a machine uses up
-/// one, and once more with the lines of its parts in the text.
+/// The run of a document, with the size of its machine, its text and its program. The program is there twice, since a machine uses up
+/// one, and once more with the places of its parts in the text.
 #[derive(Drop)]
 pub(crate) struct KeptRun {
     pub(crate) sizes: TraceShape,
+    pub(crate) text: Sequence<u8>,
     pub(crate) run: RunRecord,
     pub(crate) program: Checked,
     pub(crate) again: Checked,
@@ -47,12 +48,21 @@ pub(crate) fn places_in(alloc: Global, text: &[u8]) -> Result<Located, Memory>
     }
 }
 
+/// The same bytes once more.
+fn copy_of(alloc: Global, bytes: &[u8]) -> Result<Sequence<u8>, Memory>
+    ensures { IfOk result (λ copy. copy ≡ bytes.now) }
+{
+    let mut copy = Vec::new(alloc);
+    copy.extend_from_slice(bytes)?;
+    Ok(Sequence::from_vec(copy))
+}
+
 /// The run of a document.
 ///
 /// # Errors
 /// `Refused` with the line by which the mode replay of denovo refuses the document, and `Memory` where there is no room.
 pub(crate) fn kept_run(alloc: Global, document: &[u8]) -> Result<KeptRun, Stop>
-    ensures kept { IfOk result (λ kept. HasKeptRun document.now (λ L sizes run. kept ≡ kept_run_of L sizes run)) }
+    ensures kept { IfOk result (λ kept. HasKeptRun document.now (λ L trace run. kept ≡ kept_run_of L trace run)) }
     ensures ready { IfOk result IsViewable }
     ensures stop { IfErr result (IsStop (IsRefusedDocument document.now)) }
 {
@@ -62,10 +72,12 @@ pub(crate) fn kept_run(alloc: Global, document: &[u8]) -> Result<KeptRun, Stop>
     let program = checked_of(alloc, text)?;
     let again = checked_of(alloc, text)?;
     let located = places_in(alloc, text)?;
+    let copy = copy_of(alloc, text)?;
     let sizes = trace.shape;
     let run = run_told(alloc, trace, checked)?;
     Ok(KeptRun {
         sizes,
+        text: copy,
         run,
         program,
         again,

@@ -7,6 +7,7 @@ mod charts;
 mod command;
 mod documents;
 mod options;
+mod pages;
 mod program;
 mod reading;
 mod serving;
@@ -15,7 +16,7 @@ mod status;
 
 pub use answering::{Output, answer};
 pub use command_words::WordsFault;
-pub use options::{AccountOptions, ChartOptions, StateOptions, View};
+pub use options::{AccountOptions, ChartOptions, PageOptions, StateOptions, View};
 pub use program::view_program;
 pub use reading::read_words;
 pub use serving::view_main;

@@ -12,6 +12,8 @@ pub enum View {
     Account(AccountOptions),
     /// A state of the run, and what may come there.
     State(StateOptions),
+    /// The data of the page that shows the run in a browser, as one JSON text.
+    Page(PageOptions),
 }
 
 /// What the words ask of a chart.
@@ -46,4 +48,19 @@ pub struct StateOptions {
     /// The number of the event, from 0, before which the state is. The number of all events asks for the state after the last
     /// one.
     pub event: u32,
+}
+
+/// What the words ask of a page.
+#[derive(Clone, Copy, Debug, PartialEq, Eq)]
+pub struct PageOptions {
+    /// The number of the page's first event, from 0.
+    pub first: u32,
+    /// How many events the page has at most, from 1 to 20,000.
+    pub rows: u32,
+    /// Ticks of a core's own event, from 1 to 1,000,000.
+    pub tick_core: u32,
+    /// Ticks of a bank's event, from 1 to 1,000,000.
+    pub tick_bank: u32,
+    /// Ticks of each other event, from 1 to 1,000,000.
+    pub tick_mail: u32,
 }

@@ -2,14 +2,15 @@ ghost use Rattle.std.specs.Prelude.{◌≡◌, ◌≤◌, IfOk, IfErr, map, stri
 ghost use Rattle.std.specs.Int.{IsInRange};
 ghost use Rattle.clap.specs.Words.{rows_of, found_of, first_of};
 ghost use Rattle.command_words.specs.declared.words.WordsFault.TheVariants.{Usage};
-ghost use Rattle.view_top.specs.Command.{account_options_from, chart_options_from, columns_in, columns_named, form_in, form_named, grouping_in, grouping_named, rows_in, state_options_from, view_from, view_named, view_of, IsChartInRange, IsViewInRange};
+ghost use Rattle.view_top.specs.Command.{account_options_from, chart_options_from, columns_in, columns_named, form_in, form_named, grouping_in, grouping_named, page_options_from, rows_in, state_options_from, view_from, view_named, view_of, IsChartInRange, IsPageInRange, IsViewInRange};
 
 use crate::command::view_command;
-use crate::options::{AccountOptions, ChartOptions, StateOptions, View};
+use crate::options::{AccountOptions, ChartOptions, PageOptions, StateOptions, View};
 use account_table::Grouping;
 use account_text::Form;
 use clap::ArgMatches;
 use command_words::{WordsFault, matches_by, number};
+use page_data::MOST_ROWS;
 use run_chart::Columns;
 use std::alloc::Global;
 
@@ -53,16 +54,16 @@ fn columns(matches: &ArgMatches<'_>) -> Option<Columns>
     }
 }
 
-/// What a chart is asked, where each number is in its range.
+/// What a chart with these columns is asked, where each number is in its range.
 #[tactic(auto, unfolding(crate::specs::Command::chart_options_from))]
-fn chart_options(matches: &ArgMatches<'_>) -> Option<ChartOptions>
-    ensures value { result ≡ chart_options_from (rows_of (found_of matches.now)) }
+fn chart_options(matches: &ArgMatches<'_>, columns: Columns) -> Option<ChartOptions>
+    ensures value { result ≡ chart_options_from (rows_of (found_of matches.now)) columns }
     ensures limits { (o : _) → result ≡ Some o → IsChartInRange o }
 {
     Some(ChartOptions {
         first: number(matches, "first", 0, 4_294_967_295)?,
         rows: rows(matches, 1000, 4096)?,
-        columns: columns(matches)?,
+        columns,
         tick_core: number(matches, "tick-core", 1, 1_000_000)?,
         tick_bank: number(matches, "tick-bank", 1, 1_000_000)?,
         tick_mail: number(matches, "tick-mail", 1, 1_000_000)?,
@@ -134,21 +135,39 @@ fn state_options(matches: &ArgMatches<'_>) -> Option<StateOptions>
     })
 }
 
-/// The mode of this name, with what its own options ask for.
+/// What a page is asked, where each number is in its range.
+#[tactic(auto, unfolding(crate::specs::Command::page_options_from))]
+fn page_options(matches: &ArgMatches<'_>) -> Option<PageOptions>
+    ensures value { result ≡ page_options_from (rows_of (found_of matches.now)) }
+    ensures limits { (o : _) → result ≡ Some o → IsPageInRange o }
+{
+    Some(PageOptions {
+        first: number(matches, "first", 0, 4_294_967_295)?,
+        rows: rows(matches, 4096, MOST_ROWS)?,
+        tick_core: number(matches, "tick-core", 1, 1_000_000)?,
+        tick_bank: number(matches, "tick-bank", 1, 1_000_000)?,
+        tick_mail: number(matches, "tick-mail", 1, 1_000_000)?,
+    })
+}
+
+/// The mode of this name, with what its own options ask for; a chart's are None where one is out of its range.
 fn view_named(
     text: &str,
-    chart: ChartOptions,
+    chart: Option<ChartOptions>,
     account: AccountOptions,
     state: StateOptions,
+    page: PageOptions,
 ) -> Option<View>
-    requires { IsChartInRange chart }
-    ensures value { result ≡ view_named chart account state text.now }
+    requires chart { (o : _) → chart ≡ Some o → IsChartInRange o }
+    requires page { IsPageInRange page }
+    ensures value { result ≡ view_named chart account state page text.now }
     ensures limits { (v : _) → result ≡ Some v → IsViewInRange v }
 {
     match text {
-        "chart" => Some(View::Chart(chart)),
+        "chart" => Some(View::Chart(chart?)),
         "account" => Some(View::Account(account)),
         "state" => Some(View::State(state)),
+        "page" => Some(View::Page(page)),
         _ => None,
     }
 }
@@ -159,21 +178,22 @@ fn asked_view(matches: &ArgMatches<'_>) -> Option<View>
     ensures value { result ≡ view_from (rows_of (found_of matches.now)) }
     ensures limits { (v : _) → result ≡ Some v → IsViewInRange v }
 {
-    let chart = chart_options(matches)?;
+    let columns = columns(matches)?;
     let account = account_options(matches)?;
     let state = state_options(matches)?;
-    match text_of(matches, "mode") {
-        Some(text) => view_named(text, chart, account, state),
-        None => None,
-    }
+    let page = page_options(matches)?;
+    let text = text_of(matches, "mode")?;
+    let chart = chart_options(matches, columns);
+    view_named(text, chart, account, state, page)
 }
 
 /// What the command words ask for. The program's own name isn't among them.
 ///
-/// The options are `--mode`, `--first`, `--rows`, `--columns`, `--tick-core`, `--tick-bank`, `--tick-mail`, `--by`, `--form`
-/// and `--event`. Each has one value, and may be given once at most, as `--rows 7` or `--rows=7`. The ranges stand in `View`.
-/// The defaults are chart, 0, 1000, all, 1, 10, 5, run, text and 0. No other words are taken. A mode ignores the options of
-/// other modes, but each has to be in its range.
+/// The command has the options `--mode`, `--first`, `--rows`, `--columns`, `--tick-core`, `--tick-bank`, `--tick-mail`, `--by`,
+/// `--form` and `--event`, each with one value, and no other words; `View` has the ranges of the numbers. An option may be written as
+/// `--rows 7` or `--rows=7`, and stands once at most; what isn't given is chart, 0, 1000 (in the mode page 4096), all, 1, 10, 5, run, text
+/// and 0. A mode leaves the options of other modes unused, but each has to be in its range; that of the rows is the chart's in the mode
+/// chart, and else the page's.
 ///
 /// # Errors
 /// `Usage` if the command doesn't take the words, `Memory` if there is no room to read them.
