@@ -3,10 +3,11 @@
 .ci/run does, `tools/check_programs.py`. With `--quick` it takes whatever the launchers run, also builds without proof.
 
 It looks that the command words are handed on, that each exit code from 0 to 7 comes out, and 9 for words that aren't UTF-8, that a
-run goes by a pipe into its picture, its account, its states and its page, that all are those of tools/reference.py, that explained answers are those of
-tools/explained.txt, that claims are judged as tools/reference.py judges them, that standard error helps, that the
-tutorial and the pages on accounts and states show what their commands print, that the numbers of accounts, of answers to exercises and at the heads of
-examples are those of runs, and that the proved programs are used exactly where they were made of these sources. What a run has to write comes from tools/reference.py. It names each check that fails, and ends with a count."""
+run goes by a pipe into its picture, its account, its states and its page, that all are those of tools/reference.py, that explained
+answers are those of tools/explained.txt, that claims are judged as tools/reference.py judges them, that standard error helps, that the
+tutorial and the documents on accounts, states and pages show what their commands print, that the numbers of accounts, of answers to
+exercises and at the heads of examples are those of runs, and that the proved programs are used exactly where they were made of these
+sources. What a run has to write comes from tools/reference.py. It names each check that fails, and ends with a count."""
 import importlib.util
 import os
 import pathlib
@@ -165,7 +166,8 @@ def each_mode_has_its_own_options():
             for words in ranges:
                 ran = run([*view, "--mode", mode, *words], document)
                 check(f"{view[0]} --mode {mode} {' '.join(words)}", (ran.returncode, ran.stdout) == (1, b"refused usage\n"), ran.returncode)
-        for words in (("--mode", "pages"), ("--mode", "states"), ("--mode", ""), ("--rows", "4097"), ("--rows", "x"), ("--first", "-1"), ("--by", "run", "--by", "run")):
+        for words in (("--mode", "pages"), ("--mode", "states"), ("--mode", ""), ("--rows", "4097"), ("--rows", "x"), ("--first", "-1"),
+                      ("--by", "run", "--by", "run")):
             ran = run([*view, *words], document)
             check(f"{view[0]} {' '.join(words)}", (ran.returncode, ran.stdout) == (1, b"refused usage\n"), ran.returncode)
         for words in (("--mode", "chart"), ("--rows", "1000"), ("--rows=4096", "--tick-bank", "10"), ("--columns=all",), ("--by", "run", "--form=text")):
@@ -634,7 +636,7 @@ def by_the_reference(command):
 
 def pages_show_what_is_printed():
     """Each block behind a command of these pages is a part of what the command prints, and for an account of what it has to print."""
-    for page in ("docs/TUTORIAL.md", "docs/ACCOUNT.md", "docs/STATE.md", "docs/COMPARING.md"):
+    for page in ("docs/TUTORIAL.md", "docs/ACCOUNT.md", "docs/STATE.md", "docs/PAGE.md", "docs/COMPARING.md"):
         text = pathlib.Path(page).read_text()
         for command, block in re.findall(r"^    ((?:\./denovo|examples/)[^\n]*)\n\n```\n(.*?)^```$", text, re.M | re.S):
             ran = run(["bash", "-c", command])

@@ -166,7 +166,8 @@ pub record IsPageFor (o : PageOptions) (text : List ℕ) (r : RunRecord) (timing
   pub first : p.first ≡ o.first
   pub most : p.most ≡ o.rows
 
--- the output is the data of that page, for the longest chain by the options' ticks
+-- the output is the data of that page, for the longest chain by the options' ticks: these bytes and no others. The HTML that a browser needs
+-- around them is the same for every run, and isn't written by the program
 pub record IsPageData (P : ProgramParts) (s : TraceShape) (text : List ℕ) (o : PageOptions) (r : RunRecord) (out : Output) : Type 0 where
   pub within : o.first ≤ last_number r.events
   pub timing : Timing

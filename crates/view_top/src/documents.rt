@@ -68,11 +68,11 @@ pub(crate) fn kept_run(alloc: Global, document: &[u8]) -> Result<KeptRun, Stop>
 {
     let trace = trace_in(alloc, document)?;
     let text = trace.text.as_slice();
-    let copy = copy_of(alloc, text)?;
     let checked = checked_of(alloc, text)?;
     let program = checked_of(alloc, text)?;
     let again = checked_of(alloc, text)?;
     let located = places_in(alloc, text)?;
+    let copy = copy_of(alloc, text)?;
     let sizes = trace.shape;
     let run = run_told(alloc, trace, checked)?;
     Ok(KeptRun {
