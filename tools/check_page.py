@@ -1,10 +1,10 @@
 #!/usr/bin/env python3
 """Steps the page of a run through whole runs in a headless browser, and compares its states with those of tools/reference.py.
 
-    tools/check_page.py [--first N] [--rows N] [--shot FOLDER] [TEXT ..]
+    tools/check_page.py [--first N] [--rows N] [--program] [--shot FOLDER] [TEXT ..]
 
 Each text (the examples below where none is named) is run by tools/reference.py with the seed 1. Its page is tools/page.html with the
-data in the place of `@@RUN@@`. In the browser the button Next is pressed for each event, and then Back, and after each press the page's
+data in the place of `@@RUN@@`, as tools/reference.py makes them, or with --program the page that `./view --mode page` writes. In the browser the button Next is pressed for each event, and then Back, and after each press the page's
 state is compared with the state that the machine of tools/reference.py has there; then the page jumps to and fro. It is outside the gate.
 With --shot it leaves pictures of the page in the folder: 800 and 1,600 wide, light and dark.
 
@@ -53,14 +53,27 @@ def run(command, *words):
     return subprocess.run(base + list(words), stdout=subprocess.PIPE, stderr=subprocess.DEVNULL, timeout=900).stdout.decode("utf-8", "replace")
 
 
+def page_of_reference(document, options, name):
+    data = reference("page", str(options.first), str(options.rows), name, data=document).decode()
+    with open(os.path.join(HERE, "page.html")) as file:
+        return file.read().replace(MARK, data)
+
+
+def page_of_program(document, options, _name):
+    view = [os.path.join(HERE, "..", "view"), "--mode", "page", "--first", str(options.first), "--rows", str(options.rows)]
+    done = subprocess.run(view, input=document, stdout=subprocess.PIPE)
+    return done.stdout.decode() if done.returncode == 0 else None
+
+
 def check(command, folder, path, options):
     with open(path, "rb") as file:
         document = reference("--mode", "trace", data=file.read())
     name = os.path.basename(path)
-    data = reference("page", str(options.first), str(options.rows), name, data=document).decode()
+    page = (page_of_program if options.program else page_of_reference)(document, options, name)
+    if page is None:
+        print(name + ": ./view made no page")
+        return False
     states = reference("states", str(options.first), str(options.rows), data=document).decode()
-    with open(os.path.join(HERE, "page.html")) as file:
-        page = file.read().replace(MARK, data)
     shown = os.path.join(folder, name + ".html")
     with open(shown, "w") as file:
         file.write(page)
@@ -92,6 +105,7 @@ def main():
     words = argparse.ArgumentParser(description=__doc__, formatter_class=argparse.RawDescriptionHelpFormatter)
     words.add_argument("--first", type=int, default=0)
     words.add_argument("--rows", type=int, default=4096)
+    words.add_argument("--program", action="store_true")
     words.add_argument("--shot")
     words.add_argument("texts", nargs="*")
     options = words.parse_args()
