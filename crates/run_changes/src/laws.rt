@@ -5,23 +5,26 @@ ghost use Rattle.std.specs.List.{fold};
 ghost use Rattle.dn_base.specs.declared.ids.BankId.{BankId};
 ghost use Rattle.dn_base.specs.declared.ids.CoreId.{CoreId};
 ghost use Rattle.dn_base.specs.declared.ids.LoadSeen.{LoadSeen};
+ghost use Rattle.rv_core.specs.Access.{is_held};
 ghost use Rattle.rv_core.specs.declared.need.Need.{Need};
 ghost use Rattle.rv_core.specs.declared.task.TaskState.{TaskState};
 ghost use Rattle.message_net.specs.declared.actor.Actor.{Actor};
 ghost use Rattle.message_net.specs.declared.actor.Actor.TheVariants.{Core, Bank, Keeper};
 ghost use Rattle.message_net.specs.declared.event.Event.{Event};
 ghost use Rattle.message_net.specs.Mail.{mails_of};
-ghost use Rattle.registry_bank.specs.Bank.{BankParts, bank_word};
-ghost use Rattle.registration_protocol.specs.Node.{NodeParts, entry_of};
+ghost use Rattle.registry_bank.specs.Bank.{BankParts, bank_word, bank_lock};
+ghost use Rattle.registration_protocol.specs.Node.{NodeParts, entry_of, signature_of};
 ghost use Rattle.run_changes.specs.declared.look.EntryBefore.{EntryBefore};
 ghost use Rattle.run_changes.specs.Looks.{node_look};
-ghost use Rattle.run_changes.specs.Changes.{core_changes};
-ghost use Rattle.run_changes.specs.Applied.{entry_step, home_step, AreLookedAt, StatusFollows, TaskFollows};
-ghost use Rattle.machine_rules.specs.State.{State};
+ghost use Rattle.run_changes.specs.Changes.{locks_held, core_changes};
+ghost use Rattle.run_changes.specs.Applied.{entry_step, hold_step, signature_step, home_step, lock_step, keeper_step, AreLookedAt, StatusFollows, TaskFollows};
+ghost use Rattle.machine_rules.specs.State.{State, initial_state};
 ghost use Rattle.machine_rules.specs.Next.{next, next_number, enabled};
 ghost use Rattle.machine_rules.specs.Sound.{IsMachine};
 ghost use Rattle.dn_machine.specs.Actors.{actor_in};
 ghost use Rattle.run_changes.specs.Events.{event_changes, left_in_flight, sent_in};
+ghost use Rattle.run_changes.specs.Since.{changes_since};
+ghost use Rattle.run_changes.specs.Leads.{Leads};
 
 /// An event changes the state of the actor that makes it, and no other actor's.
 pub fn an_event_changes_its_actor_alone()
@@ -66,8 +69,38 @@ pub fn a_cores_task_follows_its_changes()
         → TaskFollows t (event_changes S e) u }
 {}
 
+/// The changes of an event of a core, applied one after the other, lead for each lock from whether the core's task held it, and from the
+/// core's signature for it, to whether the task holds it after the event, and to the signature then.
+pub fn a_cores_locks_follow_its_changes()
+    ensures held { (S : State) (e : Event) (core : CoreId) (n m : NodeParts) (l : ℕ) → IsMachine S → enabled S e ≡ true → actor_in S e ≡ Some (Core core)
+        → slice_get S.nodes core.0 ≡ Some n → slice_get (next S e).nodes core.0 ≡ Some m
+        → fold (hold_step l) (is_held (locks_held n.task) l) (event_changes S e) ≡ is_held (locks_held m.task) l }
+    ensures signatures { (S : State) (e : Event) (core : CoreId) (n m : NodeParts) (l : ℕ) → IsMachine S → enabled S e ≡ true → actor_in S e ≡ Some (Core core)
+        → slice_get S.nodes core.0 ≡ Some n → slice_get (next S e).nodes core.0 ≡ Some m
+        → fold (signature_step l) (signature_of n l) (event_changes S e) ≡ signature_of m l }
+{}
+
 /// The changes of an event of a bank, applied one after the other to what the bank had for a word, give what it has after the event.
 pub fn a_banks_words_follow_its_changes()
     ensures { (S : State) (e : Event) (bank : BankId) (b c : BankParts) (w : ℕ) → IsMachine S → enabled S e ≡ true → actor_in S e ≡ Some (Bank bank)
         → slice_get S.banks bank.0 ≡ Some b → slice_get (next S e).banks bank.0 ≡ Some c → fold (home_step w) (bank_word b w) (event_changes S e) ≡ bank_word c w }
+{}
+
+/// The changes of an event of a bank, applied one after the other to what a lock was there, give what it is after the event: its holder,
+/// the cores that wait, the first first, and the signature that is kept.
+pub fn a_banks_locks_follow_its_changes()
+    ensures { (S : State) (e : Event) (bank : BankId) (b c : BankParts) (l : ℕ) → IsMachine S → enabled S e ≡ true → actor_in S e ≡ Some (Bank bank)
+        → slice_get S.banks bank.0 ≡ Some b → slice_get (next S e).banks bank.0 ≡ Some c → fold (lock_step l) (bank_lock b l) (event_changes S e) ≡ bank_lock c l }
+{}
+
+/// The change of an event of the keeper, applied to what the keeper was, gives what it is after the event.
+pub fn the_keeper_follows_its_changes()
+    ensures { (S : State) (e : Event) → enabled S e ≡ true → actor_in S e ≡ Some Keeper → fold keeper_step S.keeper (event_changes S e) ≡ (next S e).keeper }
+{}
+
+/// What is different of a state from the beginning of its machine leads there: applied one after the other, in the order in which they
+/// stand, to what each core, each home of a word and each lock and the keeper are as the run begins, the changes give what they are in the
+/// state.
+pub fn what_is_different_leads_there()
+    ensures { (S : State) → IsMachine S → Leads (initial_state S.setting) (changes_since S) S }
 {}
