@@ -29,7 +29,7 @@ use Rattle.run_changes.specs.Looks.{pair_before, cached_from, cached}
 use Rattle.run_changes.specs.Changes.{change_before, entry_changes, wait_change, same_wait, locks_held, lock_changes, flag_change}
 use Rattle.run_changes.specs.Applied.{entry_step, phase_step, wait_step, arrived_step, halted_step, hold_step, signature_step, AreEntriesOf, is_among, StatusFollows}
 use Rattle.run_changes.specs.Since.{pair_held, held_from, end_since, task_since, node_since}
-use Rattle.run_changes.specs.Leads.{TaskShown, task_shown, task_started, task_step, shown_at, NodeLed}
+use Rattle.run_changes.specs.Leads.{TaskShown, task_shown, task_started, task_step, task_placed, NodeLed}
 use Rattle.run_changes.proofs.Applied.{Every, Leaves, all-append, all-flag, all-locks, all-unless, steady, skip, behind, sweep, wait-leads, arrived-leads}
 use Rattle.run_changes.proofs.Cached.{EachPair, Owns, owned, each-filter, cached-others}
 use Rattle.run_changes.proofs.Locks.{holds-on, signs-on, unheld}

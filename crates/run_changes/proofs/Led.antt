@@ -3,6 +3,7 @@ use Rattle.std.proofs.Common.{◌≡◌, ℕ, ◌<◌, ◌==◌, true, length, L
 use Rattle.std.proofs.lemmas.Bool.Decides.{nat_tests}
 use Rattle.std.proofs.lemmas.Option.{same_Some}
 use Rattle.std.specs.List.{fold}
+use Rattle.std.specs.Option.{option_map}
 use Rattle.dn_base.specs.declared.ids.CoreId.{CoreId}
 use Rattle.dn_base.specs.declared.ids.WordId.{WordId}
 use Rattle.rv_core.specs.declared.need.Need.{Need}
@@ -31,10 +32,12 @@ use Rattle.run_changes.specs.Looks.{node_look, words_needed, words_of_message, e
 use Rattle.run_changes.specs.Changes.{locks_held, core_changes, changes_by}
 use Rattle.run_changes.specs.Events.{event_changes}
 use Rattle.run_changes.specs.Applied.{entry_step, hold_step, signature_step, AreLookedAt, StatusFollows, TaskFollows}
+use Rattle.run_changes.specs.Leads.{task_shown, task_step, NodeLed}
 use Rattle.run_changes.proofs.Applied.{entries-lead}
 use Rattle.run_changes.proofs.Status.{StatusMoves, status-leads, moves-instr, moves-evict, moves-arrive, moves-message}
 use Rattle.run_changes.proofs.Task.{TaskMoves, task-leads, tasks-instr, tasks-evict, tasks-arrive, tasks-message}
 use Rattle.run_changes.proofs.Locks.{held-leads, signs-lead}
+use Rattle.run_changes.proofs.Shown.{TaskBegins, shown-leads, begun-instr, begun-evict, begun-arrive, begun-message}
 use Rattle.run_changes.proofs.Looked.{looked-instr, looked-evict, looked-arrive, looked-message}
 
 -- a core that was looked at so: the words that weren't looked at stay, and its flags move as they may
@@ -48,6 +51,7 @@ record IsLook (S : State) (e : Event) (c : CoreId) (n : NodeParts) : Type 0 wher
   moves : StatusMoves n after
   tasks : TaskMoves n after
   fits : Fits S.setting after
+  begun : TaskBegins S.setting n after
 
 by-look : (S : State) (e : Event) (c : CoreId) (n m : NodeParts) (needs : Option Need) (es : List EntryBefore) → look_at S e ≡ Node c (node_look n needs es) → slice_get (next S e).nodes c.0 ≡ Some m
     → event_changes S e ≡ core_changes (node_look n needs es) (seen_in S e) (Some m)
@@ -80,6 +84,7 @@ own-instr S c n fit may found =
       moves = moves-instr S.setting n;
       tasks = tasks-instr S.setting n (ready S c n may found);
       fits = instr-fits S.setting n fit (ready S c n may found);
+      begun = begun-instr S.setting n;
     }
 
 looks-evict : (S : State) (c : CoreId) (word : WordId) (n : NodeParts) → slice_get S.nodes c.0 ≡ Some n → look_at S (Evict c word) ≡ Node c (node_look n None (entry_before n word ∷ []))
@@ -98,6 +103,7 @@ own-evict S c word n fit found =
       moves = moves-evict S.setting n word;
       tasks = tasks-evict S.setting n word;
       fits = evict-fits S.setting n word fit;
+      begun = begun-evict S.setting n word;
     }
 
 looks-arrive : (S : State) (c : CoreId) (n : NodeParts) → slice_get S.nodes c.0 ≡ Some n → look_at S (Arrive c) ≡ Node c (node_look n None [])
@@ -116,6 +122,7 @@ own-arrive S c n fit found =
       moves = moves-arrive n;
       tasks = tasks-arrive n;
       fits = arrive-fits S.setting n fit;
+      begun = begun-arrive S.setting n;
     }
 
 looks-mail : (S : State) (id : MailId) (m : Mail) (c : CoreId) (n : NodeParts) → (removed id S.mails).0 ≡ Some m → m.to ≡ Core c → slice_get S.nodes c.0 ≡ Some n
@@ -137,6 +144,7 @@ by-mail S id m c n machine h to found =
       moves = moves-message S.setting n m.message;
       tasks = tasks-message S.setting n m.message fits.waiting;
       fits = gets-fits S.setting n m.message fits;
+      begun = begun-message S.setting n m.message;
     }
 
 -- the core of an actor, or this one
@@ -201,3 +209,21 @@ module _ (S : State) (e : Event) (c : CoreId) (n : NodeParts) (machine : IsMachi
       ap (fold (signature_step l) (signature_of n l)) (by-look S e c n look.after look.needs look.words look.look look.there)
       ∙ signs-lead n look.after look.needs look.words (seen_in S e) l look.moves ((machine.node c.0 n found).fits.signatures ∙ sym look.fits.signatures)
       ∙ ap (λ (x : NodeParts). signature_of x l) (same_Some look.after k (sym look.there ∙ here))
+
+  shown-led : (k : NodeParts) → slice_get (next S e).nodes c.0 ≡ Some k → fold (task_step S.setting.program n.core) (option_map task_shown n.task) (event_changes S e) ≡ option_map task_shown k.task
+  shown-led k here =
+      let look = looks in
+      ap (fold (task_step S.setting.program n.core) (option_map task_shown n.task)) (by-look S e c n look.after look.needs look.words look.look look.there)
+      ∙ shown-leads S.setting n look.after look.needs look.words (seen_in S e) look.tasks look.begun (machine.node c.0 n found).fits look.fits
+      ∙ ap (λ (x : NodeParts). option_map task_shown x.task) (same_Some look.after k (sym look.there ∙ here))
+
+  -- the whole core
+  pub node-follows : (k : NodeParts) → slice_get (next S e).nodes c.0 ≡ Some k → NodeLed S.setting.program n (event_changes S e) k
+  node-follows k here =
+      record {
+        status = followed S e c n machine may is found k here;
+        task = shown-led k here;
+        held = λ l. held-led k here l;
+        signatures = λ l. signs-led k here l;
+        entries = λ w. led S e c n machine may is found k here w;
+      }

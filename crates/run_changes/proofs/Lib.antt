@@ -14,3 +14,5 @@ mod LockHomes
 mod Keepers
 mod Begun
 mod Start
+mod Shown
+mod Whole

@@ -119,7 +119,7 @@ status-leads n m needs es seen moves =
 
 -- ---- events
 
-same-phase : (a b : ℕ) → b ≡ a → (a == b) ≡ false → ⊥
+pub same-phase : (a b : ℕ) → b ≡ a → (a == b) ≡ false → ⊥
 same-phase a b same e = grind (arith, nat_tests, same, e)
 
 -- a node whose phase and flags stay

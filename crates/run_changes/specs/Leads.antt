@@ -39,21 +39,21 @@ abbrev pub task_started : TaskDecl → TaskShown
 task_started d = record { pc = d.entry; retired = 0; end = None }
 
 -- an instruction of a task retires, a task is somewhere, and a task ends
-abbrev pub shown_retired : ℕ → TaskShown → TaskShown
-shown_retired pc t = record t { pc = pc; retired = t.retired + 1 }
+abbrev pub task_retired : ℕ → TaskShown → TaskShown
+task_retired pc t = record t { pc = pc; retired = t.retired + 1 }
 
-abbrev pub shown_at : ℕ → ℕ → TaskShown → TaskShown
-shown_at pc retired t = record t { pc = pc; retired = retired }
+abbrev pub task_placed : ℕ → ℕ → TaskShown → TaskShown
+task_placed pc retired t = record t { pc = pc; retired = retired }
 
-abbrev pub shown_ended : End → TaskShown → TaskShown
-shown_ended by t = record t { retired = t.retired + retires_at by; end = Some by }
+abbrev pub task_ended : End → TaskShown → TaskShown
+task_ended by t = record t { retired = t.retired + retires_at by; end = Some by }
 
 -- the task of a core, which a phase begins with if the program declares one
 abbrev pub task_step : ProgramParts → ℕ → Option TaskShown → Change → Option TaskShown
 task_step P core t (change.Begins phase) = option_map task_started (declared P phase.0 core)
-task_step P core t (change.Retired pc) = option_map (shown_retired pc) t
-task_step P core t (change.At pc retired) = option_map (shown_at pc retired) t
-task_step P core t (change.Ended by) = option_map (shown_ended by) t
+task_step P core t (change.Retired pc) = option_map (task_retired pc) t
+task_step P core t (change.At pc retired) = option_map (task_placed pc retired) t
+task_step P core t (change.Ended by) = option_map (task_ended by) t
 task_step P core t _ = t
 
 -- changes lead from what a core is to what it is then: its phase, wait and flags, its task, the locks that the task holds, its signatures,

@@ -1,6 +1,6 @@
 //! What an event changes and leaves alone, for whoever goes on from one state to the next by what it is told.
 //! These are laws: functions that do nothing, whose contracts say it.
-ghost use Rattle.std.specs.Prelude.{◌≡◌, ◌≢◌, ◌++◌, ℕ, true, List, Option, Some, slice_get};
+ghost use Rattle.std.specs.Prelude.{◌≡◌, ◌≢◌, ◌++◌, ◌∷◌, [], ℕ, true, List, Option, Some, slice_get};
 ghost use Rattle.std.specs.List.{fold};
 ghost use Rattle.dn_base.specs.declared.ids.BankId.{BankId};
 ghost use Rattle.dn_base.specs.declared.ids.CoreId.{CoreId};
@@ -20,11 +20,12 @@ ghost use Rattle.run_changes.specs.Changes.{locks_held, core_changes};
 ghost use Rattle.run_changes.specs.Applied.{entry_step, hold_step, signature_step, home_step, lock_step, keeper_step, AreLookedAt, StatusFollows, TaskFollows};
 ghost use Rattle.machine_rules.specs.State.{State, initial_state};
 ghost use Rattle.machine_rules.specs.Next.{next, next_number, enabled};
-ghost use Rattle.machine_rules.specs.Sound.{IsMachine};
+ghost use Rattle.machine_rules.specs.Runs.{after, IsRun};
+ghost use Rattle.machine_rules.specs.Sound.{IsMachine, IsSound};
 ghost use Rattle.dn_machine.specs.Actors.{actor_in};
 ghost use Rattle.run_changes.specs.Events.{event_changes, left_in_flight, sent_in};
 ghost use Rattle.run_changes.specs.Since.{changes_since};
-ghost use Rattle.run_changes.specs.Leads.{Leads};
+ghost use Rattle.run_changes.specs.Leads.{Leads, changes_told, changes_along};
 
 /// An event changes the state of the actor that makes it, and no other actor's.
 pub fn an_event_changes_its_actor_alone()
@@ -103,4 +104,17 @@ pub fn the_keeper_follows_its_changes()
 /// state.
 pub fn what_is_different_leads_there()
     ensures { (S : State) → IsMachine S → Leads (initial_state S.setting) (changes_since S) S }
+{}
+
+/// What an event changes leads from the state before it to the state after it, at every actor: the changes of its actor, applied one after
+/// the other to what the actor was, and no change of any other actor.
+pub fn an_events_changes_lead_on()
+    ensures { (S : State) (e : Event) → IsMachine S → enabled S e ≡ true → Leads S (changes_told S e ∷ []) (next S e) }
+{}
+
+/// From the beginning of a machine the changes that lead to one of its states, and behind them those that each event of a run from there
+/// tells, lead to the state after the run.
+pub fn the_changes_of_a_run_lead_on()
+    ensures { (S : State) (made : ℕ) (events : List Event) → IsSound S made → IsRun S events
+        → Leads (initial_state S.setting) (changes_since S ++ changes_along S events) (after S events) }
 {}
