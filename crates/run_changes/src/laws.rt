@@ -1,6 +1,6 @@
 //! What an event changes and leaves alone, for whoever goes on from one state to the next by what it is told.
 //! These are laws: functions that do nothing, whose contracts say it.
-ghost use Rattle.std.specs.Prelude.{◌≡◌, ◌≢◌, ◌++◌, ◌∷◌, [], ℕ, true, List, Option, Some, slice_get};
+ghost use Rattle.std.specs.Prelude.{◌≡◌, ◌≢◌, ◌+◌, ◌++◌, ◌∷◌, [], ℕ, true, length, List, Option, Some, slice_get, slice_set};
 ghost use Rattle.std.specs.List.{fold};
 ghost use Rattle.dn_base.specs.declared.ids.BankId.{BankId};
 ghost use Rattle.dn_base.specs.declared.ids.CoreId.{CoreId};
@@ -19,7 +19,7 @@ ghost use Rattle.run_changes.specs.Looks.{node_look};
 ghost use Rattle.run_changes.specs.Changes.{locks_held, core_changes};
 ghost use Rattle.run_changes.specs.Applied.{entry_step, hold_step, signature_step, home_step, lock_step, keeper_step, AreLookedAt, StatusFollows, TaskFollows};
 ghost use Rattle.machine_rules.specs.State.{State, initial_state};
-ghost use Rattle.machine_rules.specs.Next.{next, next_number, enabled};
+ghost use Rattle.machine_rules.specs.Next.{next, next_number, actor_index_in, enabled};
 ghost use Rattle.machine_rules.specs.Runs.{after, IsRun};
 ghost use Rattle.machine_rules.specs.Sound.{IsMachine, IsSound};
 ghost use Rattle.dn_machine.specs.Actors.{actor_in};
@@ -35,10 +35,12 @@ pub fn an_event_changes_its_actor_alone()
 {}
 
 /// What an event sends joins the mails in flight, behind those that are left: they are the mails of the actor that makes the event, numbered
-/// on from its next number. A mail that is handled leaves.
+/// on from its next number, which goes on by as many. A mail that is handled leaves.
 pub fn what_is_sent_joins_the_mails()
-    ensures { (S : State) (e : Event) (actor : Actor) → actor_in S e ≡ Some actor
+    ensures mails { (S : State) (e : Event) (actor : Actor) → actor_in S e ≡ Some actor
         → (next S e).mails ≡ left_in_flight S e ++ mails_of actor (next_number S actor) (sent_in S e) }
+    ensures numbers { (S : State) (e : Event) (actor : Actor) → actor_in S e ≡ Some actor
+        → (next S e).numbers ≡ slice_set S.numbers (actor_index_in S actor) (next_number S actor + length (sent_in S e)) }
 {}
 
 /// The changes of a core, applied one after the other to the entry that it had of a word, give the entry that it has then: they tell what
