@@ -1,6 +1,6 @@
 -- What is different of a node from one in which its phase begins leads to the node.
 use Rattle.std.proofs.Common.{◌≡◌, ℕ, zero, suc, ◌+◌, ◌<◌, ◌==◌, ◌||◌, Bool, true, false, List, [], ◌∷◌, ◌++◌, length, map, replicate, slice_index_or, Option, Some, None, IfSome, refl, sym, ap, subst, ◌∙◌, arith}
-use mathlib.Core.Logic.{inl, inr}
+use mathlib.Core.Logic.{inl}
 use Rattle.std.specs.List.{fold, filter}
 use Rattle.std.specs.Option.{option_map, is_some}
 use Rattle.std.proofs.lemmas.Bool.Decides.{nat_tests}
@@ -17,7 +17,7 @@ use Rattle.rv_core.proofs.HeldLemmas.{holds-none}
 use Rattle.write_signature.specs.declared.signature.Signature.{Signature}
 use Rattle.write_signature.specs.Signature.{empty}
 use Rattle.word_cache.specs.declared.row.Entry.{Entry}
-use Rattle.word_cache.specs.Cache.{Cache, Pair, in_set, lookup}
+use Rattle.word_cache.specs.Cache.{Cache, Pair, in_set}
 use Rattle.registration_protocol.specs.declared.node.NodeWait.{NodeWait}
 use Rattle.registration_protocol.specs.declared.node.NodeWait.TheVariants as wait
 use Rattle.registration_protocol.specs.Node.{NodeParts, Setting, entry_of, signature_of, initial_node}
@@ -29,7 +29,7 @@ use Rattle.run_changes.specs.Looks.{pair_before, cached_from, cached}
 use Rattle.run_changes.specs.Changes.{change_before, entry_changes, wait_change, same_wait, locks_held, lock_changes, flag_change}
 use Rattle.run_changes.specs.Applied.{entry_step, phase_step, wait_step, arrived_step, halted_step, hold_step, signature_step, AreEntriesOf, is_among, StatusFollows}
 use Rattle.run_changes.specs.Since.{pair_held, held_from, end_since, task_since, node_since}
-use Rattle.run_changes.specs.Leads.{TaskShown, task_shown, task_started, task_step, task_placed, NodeLed}
+use Rattle.run_changes.specs.Leads.{TaskShown, task_shown, task_started, task_step, NodeLed}
 use Rattle.run_changes.proofs.Applied.{Every, Leaves, all-append, all-flag, all-locks, all-unless, steady, skip, behind, sweep, wait-leads, arrived-leads}
 use Rattle.run_changes.proofs.Cached.{EachPair, Owns, owned, each-filter, cached-others}
 use Rattle.run_changes.proofs.Locks.{holds-on, signs-on, unheld}

@@ -1,5 +1,5 @@
 -- The change of an event of the keeper leads from what the keeper was to what it is.
-use Rattle.std.proofs.Common.{◌≡◌, ℕ, zero, suc, ◌+◌, ◌<◌, ◌≤◌, ◌==◌, ◌||◌, nat_lt, Bool, true, false, cond, List, [], ◌∷◌, ◌++◌, length, slice_get, slice_index_or, Option, Some, None, refl, sym, ap, ◌∙◌, arith}
+use Rattle.std.proofs.Common.{◌≡◌, ℕ, zero, suc, ◌+◌, ◌<◌, ◌≤◌, ◌==◌, nat_lt, Bool, true, false, cond, List, ◌++◌, length, slice_get, slice_index_or, Option, Some, None, refl, sym, ap, ◌∙◌, arith}
 use Rattle.std.specs.List.{fold, list_any}
 use Rattle.std.proofs.lemmas.Bool.{ltb-true, ltb-false}
 use Rattle.std.proofs.lemmas.Bool.Decides.{nat_tests}
@@ -16,7 +16,7 @@ use Rattle.registry_bank.proofs.Opened.{same-items}
 use Rattle.phase_barrier.specs.Barrier.{Barrier, has_arrived, flag_is_set, keeper_gets}
 use Rattle.phase_barrier.proofs.CountLemmas.{phases-kept, cores-kept}
 use Rattle.machine_rules.specs.State.{State}
-use Rattle.machine_rules.specs.Next.{next, enabled, seen_in}
+use Rattle.machine_rules.specs.Next.{next, enabled}
 use Rattle.machine_rules.proofs.Steps.{Handled, handled, keeper-step}
 use Rattle.machine_rules.proofs.OpenedFacts.{get-made}
 use Rattle.dn_machine.specs.Actors.{actor_in}

@@ -1,5 +1,5 @@
 -- The changes of an event lead from what its bank's locks were to what they are.
-use Rattle.std.proofs.Common.{◌≡◌, ℕ, suc, ◌+◌, ◌<◌, ◌==◌, ◌||◌, ◌&&◌, nat_lt, nat_le, Bool, true, false, cond, List, [], ◌∷◌, ◌++◌, length, slice_get, Option, Some, None, refl, sym, ap, ◌∙◌, arith, length-append}
+use Rattle.std.proofs.Common.{◌≡◌, ℕ, suc, ◌<◌, ◌==◌, ◌||◌, ◌&&◌, nat_lt, nat_le, Bool, true, false, cond, List, [], ◌∷◌, ◌++◌, length, slice_get, Option, Some, None, refl, sym, ap, ◌∙◌, arith, length-append}
 use Rattle.std.proofs.lemmas.Bool.Decides.{nat_tests}
 use Rattle.std.proofs.lemmas.Option.{same_Some}
 use Rattle.std.specs.List.{fold}
@@ -10,7 +10,7 @@ use Rattle.dn_base.specs.declared.ids.LockId.{LockId}
 use Rattle.dn_base.specs.declared.ids.WordId.{WordId}
 use Rattle.write_signature.specs.declared.signature.Signature.{Signature}
 use Rattle.write_signature.specs.Signature.{same_signature, joined}
-use Rattle.message_net.specs.declared.actor.Actor.TheVariants.{Core, Bank}
+use Rattle.message_net.specs.declared.actor.Actor.TheVariants.{Bank}
 use Rattle.message_net.specs.declared.actor.MailId.{MailId}
 use Rattle.message_net.specs.declared.event.Event.{Event}
 use Rattle.message_net.specs.declared.event.Event.TheVariants.{Instr, Evict, Arrive, Handle}
@@ -18,7 +18,7 @@ use Rattle.message_net.specs.declared.message.Mail.{Mail}
 use Rattle.message_net.specs.declared.message.Message.{Message}
 use Rattle.message_net.specs.declared.message.Message.TheVariants as message
 use Rattle.message_net.specs.declared.message.Outgoing.{Outgoing}
-use Rattle.queue_lock.specs.Lock.{Lock, waits, is_core, queued, asked, acquired, handed_on, given_up, released}
+use Rattle.queue_lock.specs.Lock.{Lock, waits, is_core, asked, acquired, handed_on, given_up, released}
 use Rattle.registry_bank.specs.declared.bank.BankWord.{BankWord}
 use Rattle.registry_bank.specs.Bank.{BankParts, bank_word, bank_lock, with_lock, acquires, releases, from_core, bank_gets}
 use Rattle.registry_bank.proofs.ChangeLemmas.{lock-changed}
@@ -30,7 +30,7 @@ use Rattle.machine_rules.proofs.Steps.{Handled, handled, bank-step}
 use Rattle.dn_machine.specs.Actors.{actor_in}
 use Rattle.run_changes.specs.declared.change.Change.TheVariants as change
 use Rattle.run_changes.specs.declared.look.LockLook.{LockLook}
-use Rattle.run_changes.specs.Looks.{bank_look, lock_look, look_at}
+use Rattle.run_changes.specs.Looks.{bank_look, lock_look}
 use Rattle.run_changes.specs.Changes.{change_unless, same_content, home_change, same_holder, same_queue, queue_change, changes_by}
 use Rattle.run_changes.specs.Events.{event_changes}
 use Rattle.run_changes.specs.Applied.{lock_step}

@@ -11,7 +11,7 @@ use Rattle.message_net.specs.declared.event.Event.TheVariants.{Instr, Evict, Arr
 use Rattle.message_net.specs.declared.message.Mail.{Mail}
 use Rattle.message_net.specs.declared.message.Message.{Message}
 use Rattle.message_net.specs.declared.message.Outgoing.{Outgoing}
-use Rattle.message_net.specs.Mail.{mails_with, mails_of, all_mails}
+use Rattle.message_net.specs.Mail.{mails_with, mails_of}
 use Rattle.message_net.specs.Pool.{removed}
 use Rattle.message_net.proofs.MailLemmas.{all_mails-append}
 use Rattle.message_net.proofs.PoolLemmas.{sum_by-taken}

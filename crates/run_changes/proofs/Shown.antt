@@ -1,5 +1,5 @@
 -- The changes of an event lead from what its core's task shows to what it shows then, where a phase begins too.
-use Rattle.std.proofs.Common.{◌≡◌, ℕ, ◌+◌, ◌==◌, ◌&&◌, not, nat_lt, Bool, true, false, cond, length, List, [], ◌∷◌, Option, Some, None, refl, sym, ap, ◌∙◌, arith}
+use Rattle.std.proofs.Common.{◌≡◌, ℕ, ◌+◌, ◌==◌, ◌&&◌, not, nat_lt, Bool, true, false, cond, length, List, Option, Some, None, refl, sym, ap, ◌∙◌, arith}
 use Rattle.std.proofs.lemmas.Bool.Decides.{nat_tests}
 use Rattle.std.specs.Option.{is_some, option_map}
 use Rattle.std.specs.List.{fold}
@@ -19,7 +19,6 @@ use Rattle.registration_protocol.specs.Messages.{node_gets, go_row, halt_row, be
 use Rattle.registration_protocol.specs.Changes.{KeepsPhase}
 use Rattle.registration_protocol.specs.Fit.{Fits}
 use Rattle.registration_protocol.proofs.PhaseLemmas.{instr-phase, evict-keeps, gets-phase}
-use Rattle.run_changes.specs.declared.change.Change.{Change}
 use Rattle.run_changes.specs.declared.change.Change.TheVariants as change
 use Rattle.run_changes.specs.declared.look.EntryBefore.{EntryBefore}
 use Rattle.run_changes.specs.Looks.{node_look}

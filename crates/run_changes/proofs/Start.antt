@@ -6,7 +6,6 @@ use Rattle.std.proofs.lemmas.Bool.{ltb-true, ltb-false}
 use Rattle.std.proofs.lemmas.Bool.Decides.{nat_tests}
 use Rattle.std.proofs.lemmas.List.{length-replicate}
 use Rattle.std.proofs.lemmas.List.Concat.{flat_map-append}
-use Rattle.std.proofs.lemmas.List.Sums.{fold-append}
 use Rattle.std.proofs.lemmas.Option.{none-some, slice_get_past, slice_get-get_or}
 use Rattle.dn_base.specs.declared.ids.BankId.{BankId}
 use Rattle.dn_base.specs.declared.ids.CoreId.{CoreId}
@@ -16,15 +15,15 @@ use Rattle.message_net.specs.Id.{same_actor}
 use Rattle.queue_lock.specs.Lock.{Lock, free_lock}
 use Rattle.registry_bank.specs.declared.bank.BankWord.{BankWord}
 use Rattle.registry_bank.specs.declared.bank.BankWord.TheVariants.{Home}
-use Rattle.registry_bank.specs.Bank.{BankParts, bank_lock, first_word}
+use Rattle.registry_bank.specs.Bank.{BankParts, first_word}
 use Rattle.phase_barrier.specs.Barrier.{initial_barrier}
-use Rattle.registration_protocol.specs.Node.{NodeParts, Setting, initial_node}
-use Rattle.machine_rules.specs.State.{State, initial_state, word_in, home_at, lock_in, lock_at}
+use Rattle.registration_protocol.specs.Node.{NodeParts}
+use Rattle.machine_rules.specs.State.{State, initial_state, home_at, lock_in, lock_at}
 use Rattle.machine_rules.specs.Sound.{IsMachine}
-use Rattle.machine_rules.proofs.OpenedFacts.{opened-setting, opened-node, opened-keeper, opened-home, opened-lock}
+use Rattle.machine_rules.proofs.OpenedFacts.{opened-node, opened-home, opened-lock}
 use Rattle.run_changes.specs.declared.change.ActorChanges.{ActorChanges}
 use Rattle.run_changes.specs.declared.change.Change.{Change}
-use Rattle.run_changes.specs.Changes.{home_change, queue_change, barrier_change, same_holder, same_queue}
+use Rattle.run_changes.specs.Changes.{home_change, queue_change, barrier_change, same_holder}
 use Rattle.run_changes.specs.Applied.{home_step, lock_step, keeper_step}
 use Rattle.run_changes.specs.Since.{changes_of, node_since, core_since, cores_since, home_of, word_since, words_since, free_look, lock_since, locks_since, changes_since}
 use Rattle.run_changes.specs.Leads.{own_changes, changes_for, NodeLed, Leads}
@@ -32,7 +31,7 @@ use Rattle.run_changes.proofs.Applied.{Every, Leaves, all-append, steady, skip, 
 use Rattle.run_changes.proofs.Listed.{nothing_behind}
 use Rattle.run_changes.proofs.Homes.{StaysThere, here, home-else, lock-told}
 use Rattle.run_changes.proofs.Locks.{IsApart, below-apart, above-apart}
-use Rattle.run_changes.proofs.LockHomes.{QueueMoves, look_of, lock-here, lock-else, word-told}
+use Rattle.run_changes.proofs.LockHomes.{QueueMoves, lock-here, lock-else, word-told}
 use Rattle.run_changes.proofs.Keepers.{keeper-told}
 use Rattle.run_changes.proofs.Begun.{node-begun}
 

@@ -11,16 +11,12 @@ use Rattle.dn_base.specs.declared.ids.BankId.{BankId}
 use Rattle.dn_base.specs.declared.ids.CoreId.{CoreId}
 use Rattle.message_net.specs.declared.actor.Actor.{Actor}
 use Rattle.message_net.specs.declared.actor.Actor.TheVariants.{Core, Bank, Keeper}
-use Rattle.message_net.specs.declared.actor.MailId.{MailId}
 use Rattle.message_net.specs.declared.event.Event.{Event}
 use Rattle.message_net.specs.declared.event.Event.TheVariants.{Instr, Evict, Arrive, Handle}
-use Rattle.message_net.specs.declared.message.Mail.{Mail}
 use Rattle.message_net.specs.Id.{same_actor}
 use Rattle.message_net.proofs.PoolLemmas.{same_actor-true, same_actor-refl}
-use Rattle.queue_lock.specs.Lock.{Lock}
 use Rattle.region_table.specs.Program.{ProgramParts}
-use Rattle.registry_bank.specs.declared.bank.BankWord.{BankWord}
-use Rattle.registry_bank.specs.Bank.{BankParts, bank_word, bank_lock, bank_gets}
+use Rattle.registry_bank.specs.Bank.{BankParts, bank_gets}
 use Rattle.registration_protocol.specs.Node.{NodeParts, entry_of, signature_of}
 use Rattle.rv_core.specs.Access.{is_held}
 use Rattle.machine_rules.specs.State.{State, initial_state, word_in, home_at, lock_in, lock_at}
@@ -39,7 +35,7 @@ use Rattle.run_changes.specs.Changes.{locks_held}
 use Rattle.run_changes.specs.Events.{event_changes, maker_of}
 use Rattle.run_changes.specs.Applied.{entry_step, phase_step, wait_step, arrived_step, halted_step, hold_step, signature_step, home_step, lock_step, keeper_step}
 use Rattle.run_changes.specs.Since.{home_of, changes_since}
-use Rattle.run_changes.specs.Leads.{TaskShown, task_shown, task_step, NodeLed, changes_for, Leads, changes_told, changes_along}
+use Rattle.run_changes.specs.Leads.{task_shown, task_step, NodeLed, changes_for, Leads, changes_told, changes_along}
 use Rattle.run_changes.proofs.Alone.{cores-alone, banks-alone, keeper-alone}
 use Rattle.run_changes.proofs.Listed.{nothing_behind}
 use Rattle.run_changes.proofs.Homes.{homes-led, no-core}
@@ -94,18 +90,18 @@ leads-on : (S T U : State) (xs ys : List ActorChanges) → IsMachine S → IsMac
 leads-on S T U xs ys here there same a b =
     record {
       cores = λ core n p was is.
-      let m = node-there S T here there same core.0 n was in
-      subst (λ (cs : List Change). NodeLed S.setting.program n cs p) (sym (for-append (Core core) xs ys))
-      (node-on S.setting.program n m.0 p (changes_for (Core core) xs) (changes_for (Core core) ys) m.2 (a.cores core n m.0 was m.1)
-      (subst (λ (P : ProgramParts). NodeLed P m.0 (changes_for (Core core) ys) p) (ap (λ (C : _). C.program) same) (b.cores core m.0 p m.1 is)));
+          let m = node-there S T here there same core.0 n was in
+          subst (λ (cs : List Change). NodeLed S.setting.program n cs p) (sym (for-append (Core core) xs ys))
+          (node-on S.setting.program n m.0 p (changes_for (Core core) xs) (changes_for (Core core) ys) m.2 (a.cores core n m.0 was m.1)
+          (subst (λ (P : ProgramParts). NodeLed P m.0 (changes_for (Core core) ys) p) (ap (λ (C : _). C.program) same) (b.cores core m.0 p m.1 is)));
       homes = λ w.
-      ap (fold (home_step w) (home_at S w)) (for-append (home_of S w) xs ys)
-      ∙ on (home_step w) (home_at S w) (home_at T w) (home_at U w) (changes_for (home_of S w) xs) (changes_for (home_of S w) ys) (a.homes w)
-      (ap (λ (h : Actor). fold (home_step w) (home_at T w) (changes_for h ys)) (sym (home-same w)) ∙ b.homes w);
+          ap (fold (home_step w) (home_at S w)) (for-append (home_of S w) xs ys)
+          ∙ on (home_step w) (home_at S w) (home_at T w) (home_at U w) (changes_for (home_of S w) xs) (changes_for (home_of S w) ys) (a.homes w)
+          (ap (λ (h : Actor). fold (home_step w) (home_at T w) (changes_for h ys)) (sym (home-same w)) ∙ b.homes w);
       locks = λ l.
-      ap (fold (lock_step l) (lock_at S l)) (for-append (home_of S l) xs ys)
-      ∙ on (lock_step l) (lock_at S l) (lock_at T l) (lock_at U l) (changes_for (home_of S l) xs) (changes_for (home_of S l) ys) (a.locks l)
-      (ap (λ (h : Actor). fold (lock_step l) (lock_at T l) (changes_for h ys)) (sym (home-same l)) ∙ b.locks l);
+          ap (fold (lock_step l) (lock_at S l)) (for-append (home_of S l) xs ys)
+          ∙ on (lock_step l) (lock_at S l) (lock_at T l) (lock_at U l) (changes_for (home_of S l) xs) (changes_for (home_of S l) ys) (a.locks l)
+          (ap (λ (h : Actor). fold (lock_step l) (lock_at T l) (changes_for h ys)) (sym (home-same l)) ∙ b.locks l);
       keeper =
           ap (fold keeper_step S.keeper) (for-append Keeper xs ys)
           ∙ on keeper_step S.keeper T.keeper U.keeper (changes_for Keeper xs) (changes_for Keeper ys) a.keeper b.keeper;
