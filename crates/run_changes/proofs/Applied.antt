@@ -234,7 +234,7 @@ module _ (n m : NodeParts) (w : ℕ) where
       ap (λ (z : Option Entry). fold (entry_step w) z (entry_changes m es)) (of-another w e.word e.entry (entry_of m e.word.0) x t)
       ∙ ends x is (λ f. left (rw (t) f))
 
-  sweep : (es : List EntryBefore) → AreEntriesOf n es → Ends es
+  pub sweep : (es : List EntryBefore) → AreEntriesOf n es → Ends es
   sweep [] before x is left = left refl
   sweep (e ∷ es) before x is left =
       fold-append (entry_step w) x (change_before m e) (entry_changes m es) ∙ one-more e es x before.0 is left (sweep es before.1) (e.word.0 == w) refl

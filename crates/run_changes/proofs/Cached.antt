@@ -11,7 +11,7 @@ use Rattle.run_changes.specs.declared.look.EntryBefore.{EntryBefore}
 use Rattle.run_changes.specs.Looks.{pair_before, cached_from, cached}
 use Rattle.run_changes.specs.Applied.{AreEntriesOf, is_among}
 
-abbrev EachPair : (Pair → Type 0) → List Pair → Type 0
+abbrev pub EachPair : (Pair → Type 0) → List Pair → Type 0
 EachPair P [] = Unit {0}
 EachPair P (p ∷ ps) = P p × EachPair P ps
 
@@ -19,7 +19,7 @@ each-more : (P Q : Pair → Type 0) → ((p : Pair) → P p → Q p) → (ps : L
 each-more P Q more [] all = tt
 each-more P Q more (p ∷ ps) all = (more p all.0, each-more P Q more ps all.1)
 
-each-filter : (P : Pair → Type 0) (test : Pair → Bool) (ps : List Pair) → EachPair P ps → EachPair P (filter test ps)
+pub each-filter : (P : Pair → Type 0) (test : Pair → Bool) (ps : List Pair) → EachPair P ps → EachPair P (filter test ps)
 each-filter P test [] all = tt
 each-filter P test (p ∷ ps) all = by_test (test p) (each-filter P test ps all.1) where
   by_test : (t : Bool) → EachPair P (filter test ps) → EachPair P (cond t (p ∷ filter test ps) (filter test ps))
@@ -27,10 +27,10 @@ each-filter P test (p ∷ ps) all = by_test (test p) (each-filter P test ps all.
   by_test false rest = rest
 
 -- each pair's word has the pair's entry
-Owns : List Pair → Pair → Type 0
+unfoldable pub Owns : List Pair → Pair → Type 0
 Owns all p = lookup p.0.0 all ≡ Some p.1
 
-owned : (ps : List Pair) → AreDifferent ps → EachPair (Owns ps) ps
+pub owned : (ps : List Pair) → AreDifferent ps → EachPair (Owns ps) ps
 unfolding Owns
 owned [] apart = tt
 owned (p ∷ ps) apart = (first, each-more (Owns ps) (Owns (p ∷ ps)) later ps (owned ps apart.1)) where

@@ -47,7 +47,7 @@ contents-same (Home a) (Reg b) e = cc
 contents-same (Reg a) (Home b) e = cc
 
 -- a word has something before and after, or nothing
-abbrev StaysThere : Option BankWord → Option BankWord → Type 0
+abbrev pub StaysThere : Option BankWord → Option BankWord → Type 0
 StaysThere None None = Unit {0}
 StaysThere (Some x) (Some y) = Unit {0}
 StaysThere _ _ = ⊥
@@ -58,7 +58,7 @@ record MovesOne (b c : BankParts) (word : WordId) : Type 0 where
   both : StaysThere (bank_word b word.0) (bank_word c word.0)
 
 module _ (w : ℕ) where
-  here : (word : WordId) (x y : Option BankWord) → (word.0 == w) ≡ true → StaysThere x y → fold (home_step w) x (home_change word x y) ≡ y
+  pub here : (word : WordId) (x y : Option BankWord) → (word.0 == w) ≡ true → StaysThere x y → fold (home_step w) x (home_change word x y) ≡ y
   here word None None t both = refl
   here word None (Some y) t both = elim both [ ]
   here word (Some x) None t both = elim both [ ]
@@ -74,6 +74,11 @@ module _ (w : ℕ) where
     by_test : (s : Bool) → fold (home_step w) z (change_unless s (change.Home word y)) ≡ z
     by_test true = refl
     by_test false = rw (t) refl
+
+  pub home-else : (word : WordId) (x y : Option BankWord) → (word.0 == w) ≡ false → Every (Leaves (home_step w)) (home_change word x y)
+  home-else word None y t = tt
+  home-else word (Some x) None t = tt
+  home-else word (Some x) (Some y) t = all-unless (Leaves (home_step w)) (same_content x y) (change.Home word y) (λ z. rw (t) refl)
 
   moved : (b c : BankParts) (word : WordId) → MovesOne b c word → fold (home_step w) (bank_word b w) (home_change word (bank_word b word.0) (bank_word c word.0)) ≡ bank_word c w
   moved b c word moves = by_test (word.0 == w) refl where
@@ -119,7 +124,7 @@ of-core b core row word moves = by_test (nat_lt core.0 b.cores) where
   by_test false = rests b word
 
 -- a lock's message changes no word, and tells of none
-lock-told : (w : ℕ) (lock : LockId) (look : LockLook) (o : Option Lock) → Every (Leaves (home_step w)) (queue_change lock look o)
+pub lock-told : (w : ℕ) (lock : LockId) (look : LockLook) (o : Option Lock) → Every (Leaves (home_step w)) (queue_change lock look o)
 lock-told w lock look None = tt
 lock-told w lock look (Some h) =
     all-append (Leaves (home_step w)) (change_unless (same_queue look h) (change.Queue lock h.holder h.queue)) _ (all-unless (Leaves (home_step w)) (same_queue look h) (change.Queue lock h.holder h.queue) (λ x. refl))
@@ -171,7 +176,7 @@ by-message T bank b (message.Arrived core bad) seen w some there = refl
 by-message T bank b (message.Go phase) seen w some there = refl
 by-message T bank b message.Halt seen w some there = refl
 
-looks-mail : (S : State) (id : MailId) (m : Mail) (bank : BankId) (b : BankParts) → (removed id S.mails).0 ≡ Some m → m.to ≡ Bank bank → slice_get S.banks bank.0 ≡ Some b → look_at S (Handle id) ≡ bank_look bank m.message (Some b)
+pub looks-mail : (S : State) (id : MailId) (m : Mail) (bank : BankId) (b : BankParts) → (removed id S.mails).0 ≡ Some m → m.to ≡ Bank bank → slice_get S.banks bank.0 ≡ Some b → look_at S (Handle id) ≡ bank_look bank m.message (Some b)
 unfolding look_at
 looks-mail S id m bank b took to found = rw (took, to, found) refl
 
@@ -186,7 +191,7 @@ by-mail S id m bank b machine h to found k there w =
     rw (looks-mail S id m bank b h.took to found)
     (by-message (next S (Handle id)) bank b m.message (seen_in S (Handle id)) w some left ∙ ap (λ (x : BankParts). bank_word x w) (same_Some (bank_gets b m.message).0 k (sym left ∙ there)))
 
-no-core : {A : Type 0} (c : CoreId) (bank : BankId) → Some (Core c) ≡ Some (Bank bank) → A
+pub no-core : {A : Type 0} (c : CoreId) (bank : BankId) → Some (Core c) ≡ Some (Bank bank) → A
 no-core c bank e = cc
 
 pub homes-led : (S : State) (e : Event) (bank : BankId) (b : BankParts) → IsMachine S → enabled S e ≡ true → actor_in S e ≡ Some (Bank bank) → slice_get S.banks bank.0 ≡ Some b

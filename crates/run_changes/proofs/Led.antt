@@ -1,8 +1,9 @@
 -- The changes of an event lead from the entries that its core had to those that it has.
-use Rattle.std.proofs.Common.{◌≡◌, ℕ, ◌<◌, ◌==◌, true, List, [], ◌∷◌, slice_get, Option, Some, None, refl, sym, ap, ◌∙◌, arith}
+use Rattle.std.proofs.Common.{◌≡◌, ℕ, ◌<◌, ◌==◌, true, List, [], ◌∷◌, slice_get, Option, Some, None, IfSome, refl, sym, ap, subst, ◌∙◌, arith}
 use Rattle.std.proofs.lemmas.Bool.Decides.{nat_tests}
 use Rattle.std.proofs.lemmas.Option.{same_Some}
 use Rattle.std.specs.List.{fold}
+use Rattle.std.specs.Option.{option_map}
 use Rattle.dn_base.specs.declared.ids.CoreId.{CoreId}
 use Rattle.dn_base.specs.declared.ids.WordId.{WordId}
 use Rattle.rv_core.specs.declared.need.Need.{Need}
@@ -14,10 +15,12 @@ use Rattle.message_net.specs.declared.event.Event.{Event}
 use Rattle.message_net.specs.declared.event.Event.TheVariants.{Instr, Evict, Arrive, Handle}
 use Rattle.message_net.specs.declared.message.Mail.{Mail}
 use Rattle.message_net.specs.Pool.{removed}
-use Rattle.registration_protocol.specs.Fit.{Fits}
-use Rattle.registration_protocol.specs.Node.{NodeParts, entry_of, need_now}
+use Rattle.rv_core.specs.Access.{is_held}
+use Rattle.registration_protocol.specs.Fit.{Fits, HoldsOwn}
+use Rattle.registration_protocol.specs.Node.{NodeParts, entry_of, need_now, signature_of}
 use Rattle.registration_protocol.specs.OwnEvents.{instructed, evicted, arrives, may_instr}
 use Rattle.registration_protocol.specs.Messages.{node_gets}
+use Rattle.registration_protocol.proofs.FitLemmas.{instr-fits, evict-fits, arrive-fits, gets-fits}
 use Rattle.machine_rules.specs.State.{State}
 use Rattle.machine_rules.specs.Next.{next, enabled, seen_in}
 use Rattle.machine_rules.specs.Sound.{IsMachine}
@@ -26,12 +29,15 @@ use Rattle.dn_machine.specs.Actors.{actor_in}
 use Rattle.run_changes.specs.declared.look.EntryBefore.{EntryBefore}
 use Rattle.run_changes.specs.declared.look.Look.TheVariants.{Node}
 use Rattle.run_changes.specs.Looks.{node_look, words_needed, words_of_message, entry_before, look_at}
-use Rattle.run_changes.specs.Changes.{core_changes, changes_by}
+use Rattle.run_changes.specs.Changes.{locks_held, core_changes, changes_by}
 use Rattle.run_changes.specs.Events.{event_changes}
-use Rattle.run_changes.specs.Applied.{entry_step, AreLookedAt, StatusFollows, TaskFollows}
+use Rattle.run_changes.specs.Applied.{entry_step, hold_step, signature_step, AreLookedAt, StatusFollows, TaskFollows}
+use Rattle.run_changes.specs.Leads.{task_shown, task_step, NodeLed}
 use Rattle.run_changes.proofs.Applied.{entries-lead}
 use Rattle.run_changes.proofs.Status.{StatusMoves, status-leads, moves-instr, moves-evict, moves-arrive, moves-message}
 use Rattle.run_changes.proofs.Task.{TaskMoves, task-leads, tasks-instr, tasks-evict, tasks-arrive, tasks-message}
+use Rattle.run_changes.proofs.Locks.{held-leads, signs-lead}
+use Rattle.run_changes.proofs.Shown.{TaskBegins, shown-leads, begun-instr, begun-evict, begun-arrive, begun-message}
 use Rattle.run_changes.proofs.Looked.{looked-instr, looked-evict, looked-arrive, looked-message}
 
 -- a core that was looked at so: the words that weren't looked at stay, and its flags move as they may
@@ -44,6 +50,8 @@ record IsLook (S : State) (e : Event) (c : CoreId) (n : NodeParts) : Type 0 wher
   looked : AreLookedAt n after words
   moves : StatusMoves n after
   tasks : TaskMoves n after
+  fits : Fits S.setting after
+  begun : TaskBegins S.setting n after
 
 by-look : (S : State) (e : Event) (c : CoreId) (n m : NodeParts) (needs : Option Need) (es : List EntryBefore) → look_at S e ≡ Node c (node_look n needs es) → slice_get (next S e).nodes c.0 ≡ Some m
     → event_changes S e ≡ core_changes (node_look n needs es) (seen_in S e) (Some m)
@@ -64,8 +72,8 @@ ready : (S : State) (c : CoreId) (n : NodeParts) → enabled S (Instr c) ≡ tru
 unfolding enabled
 ready S c n may found = rw (found) at may
 
-own-instr : (S : State) (c : CoreId) (n : NodeParts) → enabled S (Instr c) ≡ true → slice_get S.nodes c.0 ≡ Some n → IsLook S (Instr c) c n
-own-instr S c n may found =
+own-instr : (S : State) (c : CoreId) (n : NodeParts) → Fits S.setting n → enabled S (Instr c) ≡ true → slice_get S.nodes c.0 ≡ Some n → IsLook S (Instr c) c n
+own-instr S c n fit may found =
     record {
       after = (instructed S.setting n).0;
       needs = need_now S.setting n;
@@ -75,14 +83,16 @@ own-instr S c n may found =
       looked = looked-instr S.setting n (ready S c n may found);
       moves = moves-instr S.setting n;
       tasks = tasks-instr S.setting n (ready S c n may found);
+      fits = instr-fits S.setting n fit (ready S c n may found);
+      begun = begun-instr S.setting n;
     }
 
 looks-evict : (S : State) (c : CoreId) (word : WordId) (n : NodeParts) → slice_get S.nodes c.0 ≡ Some n → look_at S (Evict c word) ≡ Node c (node_look n None (entry_before n word ∷ []))
 unfolding look_at
 looks-evict S c word n found = rw (found) refl
 
-own-evict : (S : State) (c : CoreId) (word : WordId) (n : NodeParts) → slice_get S.nodes c.0 ≡ Some n → IsLook S (Evict c word) c n
-own-evict S c word n found =
+own-evict : (S : State) (c : CoreId) (word : WordId) (n : NodeParts) → Fits S.setting n → slice_get S.nodes c.0 ≡ Some n → IsLook S (Evict c word) c n
+own-evict S c word n fit found =
     record {
       after = (evicted S.setting n word).0;
       needs = None;
@@ -92,14 +102,16 @@ own-evict S c word n found =
       looked = looked-evict S.setting n word;
       moves = moves-evict S.setting n word;
       tasks = tasks-evict S.setting n word;
+      fits = evict-fits S.setting n word fit;
+      begun = begun-evict S.setting n word;
     }
 
 looks-arrive : (S : State) (c : CoreId) (n : NodeParts) → slice_get S.nodes c.0 ≡ Some n → look_at S (Arrive c) ≡ Node c (node_look n None [])
 unfolding look_at
 looks-arrive S c n found = rw (found) refl
 
-own-arrive : (S : State) (c : CoreId) (n : NodeParts) → slice_get S.nodes c.0 ≡ Some n → IsLook S (Arrive c) c n
-own-arrive S c n found =
+own-arrive : (S : State) (c : CoreId) (n : NodeParts) → Fits S.setting n → slice_get S.nodes c.0 ≡ Some n → IsLook S (Arrive c) c n
+own-arrive S c n fit found =
     record {
       after = (arrives n).0;
       needs = None;
@@ -109,6 +121,8 @@ own-arrive S c n found =
       looked = looked-arrive n;
       moves = moves-arrive n;
       tasks = tasks-arrive n;
+      fits = arrive-fits S.setting n fit;
+      begun = begun-arrive S.setting n;
     }
 
 looks-mail : (S : State) (id : MailId) (m : Mail) (c : CoreId) (n : NodeParts) → (removed id S.mails).0 ≡ Some m → m.to ≡ Core c → slice_get S.nodes c.0 ≡ Some n
@@ -129,6 +143,8 @@ by-mail S id m c n machine h to found =
       looked = looked-message S.setting n m.message fits.cache some;
       moves = moves-message S.setting n m.message;
       tasks = tasks-message S.setting n m.message fits.waiting;
+      fits = gets-fits S.setting n m.message fits;
+      begun = begun-message S.setting n m.message;
     }
 
 -- the core of an actor, or this one
@@ -142,9 +158,9 @@ same-core c d e = sym (ap (λ (o : Option Actor). the_core c o) e)
 
 is-look : (S : State) (e : Event) (c : CoreId) (n : NodeParts) → IsMachine S → enabled S e ≡ true → actor_in S e ≡ Some (Core c) → slice_get S.nodes c.0 ≡ Some n → IsLook S e c n
 unfolding actor_in
-is-look S (Instr d) c n machine may is found = rw (same-core c d is) (own-instr S d n may (rw (same-core c d is) at found))
-is-look S (Evict d word) c n machine may is found = rw (same-core c d is) (own-evict S d word n (rw (same-core c d is) at found))
-is-look S (Arrive d) c n machine may is found = rw (same-core c d is) (own-arrive S d n (rw (same-core c d is) at found))
+is-look S (Instr d) c n machine may is found = rw (same-core c d is) (own-instr S d n (machine.node c.0 n found).fits may (rw (same-core c d is) at found))
+is-look S (Evict d word) c n machine may is found = rw (same-core c d is) (own-evict S d word n (machine.node c.0 n found).fits (rw (same-core c d is) at found))
+is-look S (Arrive d) c n machine may is found = rw (same-core c d is) (own-arrive S d n (machine.node c.0 n found).fits (rw (same-core c d is) at found))
 is-look S (Handle id) c n machine may is found =
     let took = handled S id may in
     by-mail S id took.0 c n machine took.1 (same_Some took.0.to (Core c) (rw (took.1.took) at is)) found
@@ -171,3 +187,43 @@ tasked S e c n machine may is found k here t u stays has leaves =
     let one : l.after ≡ k = same_Some l.after k (sym l.there ∙ here) in
     let phase : (n.phase == l.after.phase) ≡ true = grind (arith, nat_tests, one, stays) in
     rw (by-look S e c n l.after l.needs l.words l.look l.there) (task-leads n l.after l.needs l.words (seen_in S e) t u l.tasks phase has (ap (λ (x : NodeParts). x.task) one ∙ leaves))
+
+-- the locks that its task holds, and its signatures
+module _ (S : State) (e : Event) (c : CoreId) (n : NodeParts) (machine : IsMachine S) (may : enabled S e ≡ true) (is : actor_in S e ≡ Some (Core c)) (found : slice_get S.nodes c.0 ≡ Some n) where
+  looks : IsLook S e c n
+  looks = is-look S e c n machine may is found
+
+  pub held-led : (k : NodeParts) → slice_get (next S e).nodes c.0 ≡ Some k → (l : ℕ) → fold (hold_step l) (is_held (locks_held n.task) l) (event_changes S e) ≡ is_held (locks_held k.task) l
+  held-led k here l =
+      let look = looks in
+      let fit : Fits S.setting n = (machine.node c.0 n found).fits in
+      ap (fold (hold_step l) (is_held (locks_held n.task) l)) (by-look S e c n look.after look.needs look.words look.look look.there)
+      ∙ held-leads n look.after look.needs look.words (seen_in S e) l look.moves
+      (subst (λ (count : ℕ). IfSome n.task (HoldsOwn count)) (sym look.fits.signatures) fit.held)
+      (subst (λ (count : ℕ). IfSome look.after.task (HoldsOwn count)) (sym look.fits.signatures) look.fits.held)
+      ∙ ap (λ (x : NodeParts). is_held (locks_held x.task) l) (same_Some look.after k (sym look.there ∙ here))
+
+  pub signs-led : (k : NodeParts) → slice_get (next S e).nodes c.0 ≡ Some k → (l : ℕ) → fold (signature_step l) (signature_of n l) (event_changes S e) ≡ signature_of k l
+  signs-led k here l =
+      let look = looks in
+      ap (fold (signature_step l) (signature_of n l)) (by-look S e c n look.after look.needs look.words look.look look.there)
+      ∙ signs-lead n look.after look.needs look.words (seen_in S e) l look.moves ((machine.node c.0 n found).fits.signatures ∙ sym look.fits.signatures)
+      ∙ ap (λ (x : NodeParts). signature_of x l) (same_Some look.after k (sym look.there ∙ here))
+
+  shown-led : (k : NodeParts) → slice_get (next S e).nodes c.0 ≡ Some k → fold (task_step S.setting.program n.core) (option_map task_shown n.task) (event_changes S e) ≡ option_map task_shown k.task
+  shown-led k here =
+      let look = looks in
+      ap (fold (task_step S.setting.program n.core) (option_map task_shown n.task)) (by-look S e c n look.after look.needs look.words look.look look.there)
+      ∙ shown-leads S.setting n look.after look.needs look.words (seen_in S e) look.tasks look.begun (machine.node c.0 n found).fits look.fits
+      ∙ ap (λ (x : NodeParts). option_map task_shown x.task) (same_Some look.after k (sym look.there ∙ here))
+
+  -- the whole core
+  pub node-follows : (k : NodeParts) → slice_get (next S e).nodes c.0 ≡ Some k → NodeLed S.setting.program n (event_changes S e) k
+  node-follows k here =
+      record {
+        status = followed S e c n machine may is found k here;
+        task = shown-led k here;
+        held = λ l. held-led k here l;
+        signatures = λ l. signs-led k here l;
+        entries = λ w. led S e c n machine may is found k here w;
+      }

@@ -9,3 +9,10 @@ mod Led
 mod Status
 mod Task
 mod Homes
+mod Locks
+mod LockHomes
+mod Keepers
+mod Begun
+mod Start
+mod Shown
+mod Whole

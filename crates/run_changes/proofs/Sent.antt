@@ -1,5 +1,5 @@
 -- What an event sends joins the mails that it leaves in flight.
-use Rattle.std.proofs.Common.{◌≡◌, ℕ, ◌+◌, ◌-◌, List, [], ◌∷◌, ◌++◌, length, map, slice_get, sum_by, Option, Some, None, refl, sym, ap, ◌∙◌, arith}
+use Rattle.std.proofs.Common.{◌≡◌, ℕ, zero, suc, ◌+◌, ◌-◌, List, [], ◌∷◌, ◌++◌, length, map, slice_get, slice_index, slice_set, sum_by, Option, Some, None, refl, sym, ap, ◌∙◌, arith}
 use Rattle.std.proofs.lemmas.List.Prefix.{front_rest}
 use Rattle.std.proofs.lemmas.List.Sums.{sum_by-cons}
 use Rattle.std.proofs.lemmas.Option.{none-some, same_Some}
@@ -11,7 +11,7 @@ use Rattle.message_net.specs.declared.event.Event.TheVariants.{Instr, Evict, Arr
 use Rattle.message_net.specs.declared.message.Mail.{Mail}
 use Rattle.message_net.specs.declared.message.Message.{Message}
 use Rattle.message_net.specs.declared.message.Outgoing.{Outgoing}
-use Rattle.message_net.specs.Mail.{mails_with, mails_of, all_mails}
+use Rattle.message_net.specs.Mail.{mails_with, mails_of}
 use Rattle.message_net.specs.Pool.{removed}
 use Rattle.message_net.proofs.MailLemmas.{all_mails-append}
 use Rattle.message_net.proofs.PoolLemmas.{sum_by-taken}
@@ -22,59 +22,72 @@ use Rattle.registration_protocol.specs.Node.{NodeParts}
 use Rattle.registration_protocol.specs.OwnEvents.{instructed, evicted, arrives}
 use Rattle.registration_protocol.specs.Messages.{node_gets}
 use Rattle.machine_rules.specs.State.{State}
-use Rattle.machine_rules.specs.Next.{next, next_number, does_instr, does_evict, does_arrive, core_gets, bank_handles, gets, handles}
+use Rattle.machine_rules.specs.Next.{next, next_number, actor_index_in, numbers_with, does_instr, does_evict, does_arrive, core_gets, bank_handles, gets, handles}
 use Rattle.dn_machine.specs.Actors.{actor_in, receiver_of}
 use Rattle.run_changes.specs.Events.{count_left_by, left_in_flight, outgoing_of, sent_in}
 use Rattle.run_changes.proofs.Listed.{nothing_behind}
 
--- so many mails of an actor stand behind some others
-abbrev HasSent : ℕ → List Mail → Actor → List Mail → Type 0
-HasSent number left actor mails = (outs : List Outgoing) × (mails ≡ left ++ mails_of actor number outs)
+-- mails of an actor stand behind those that are left, and the actor's next number has gone on by as many
+record HasSent (S : State) (left : List Mail) (a : Actor) (T : State) : Type 0 where
+  outs : List Outgoing
+  mails : T.mails ≡ left ++ mails_of a (next_number S a) outs
+  numbers : T.numbers ≡ slice_set S.numbers (actor_index_in S a) (next_number S a + length outs)
 
-none-sent : (number : ℕ) (left : List Mail) (actor : Actor) → HasSent number left actor left
-none-sent number left actor = ([], sym (nothing_behind left))
+set-same : (numbers : List ℕ) (place : ℕ) → numbers ≡ slice_set numbers place (slice_index numbers place + 0)
+set-same [] place = refl
+set-same (x ∷ xs) zero = let same : x ≡ x + 0 = omega arith in ap (λ (y : ℕ). y ∷ xs) same
+set-same (x ∷ xs) (suc place) = ap (λ (ys : List ℕ). x ∷ ys) (set-same xs place)
 
-one-sent : (number : ℕ) (left : List Mail) (actor : Actor) (sent : Option Outgoing) → HasSent number left actor (mails_with actor number sent left)
-one-sent number left actor None = none-sent number left actor
-one-sent number left actor (Some out) = (out ∷ [], refl)
+none-sent : (S : State) (a : Actor) → HasSent S S.mails a S
+none-sent S a = record { outs = []; mails = sym (nothing_behind S.mails); numbers = set-same S.numbers (actor_index_in S a) }
 
-all-sent : (number : ℕ) (left : List Mail) (actor : Actor) (outs : List Outgoing) → HasSent number left actor (all_mails actor number outs left)
-all-sent number left actor outs = (outs, all_mails-append actor number outs left)
+one-sent : (S T : State) (a : Actor) (sent : Option Outgoing) → T.mails ≡ mails_with a (next_number S a) sent S.mails → T.numbers ≡ numbers_with (actor_index_in S a) sent S.numbers → HasSent S S.mails a T
+one-sent S T a None mails numbers =
+    record { outs = []; mails = mails ∙ sym (nothing_behind S.mails); numbers = numbers ∙ set-same S.numbers (actor_index_in S a) }
+one-sent S T a (Some out) mails numbers = record { outs = out ∷ []; mails = mails; numbers = numbers }
 
 -- what an actor does with a message
-by-mail : (S : State) (to : Actor) (m : Message) → HasSent (next_number S to) S.mails to (gets S to m).mails
+by-mail : (S : State) (to : Actor) (m : Message) → HasSent S S.mails to (gets S to m)
 by-mail S (Core c) m = at_node (slice_get S.nodes c.0) where
-  at_node : (o : Option NodeParts) → HasSent (next_number S (Core c)) S.mails (Core c) (core_gets S c m o).mails
-  at_node None = none-sent (next_number S (Core c)) S.mails (Core c)
-  at_node (Some n) = one-sent (next_number S (Core c)) S.mails (Core c) (node_gets S.setting n m).1.sent
+  at_node : (o : Option NodeParts) → HasSent S S.mails (Core c) (core_gets S c m o)
+  at_node None = none-sent S (Core c)
+  at_node (Some n) = one-sent S (core_gets S c m (Some n)) (Core c) (node_gets S.setting n m).1.sent refl refl
 by-mail S (Bank b) m = at_bank (slice_get S.banks b.0) where
-  at_bank : (o : Option BankParts) → HasSent (next_number S (Bank b)) S.mails (Bank b) (bank_handles S (Bank b) b.0 m o).mails
-  at_bank None = none-sent (next_number S (Bank b)) S.mails (Bank b)
-  at_bank (Some x) = one-sent (next_number S (Bank b)) S.mails (Bank b) (bank_gets x m).1
-by-mail S Keeper m = all-sent (next_number S Keeper) S.mails Keeper (letters S.setting.shape.cores (keeper_gets S.keeper m).1)
+  at_bank : (o : Option BankParts) → HasSent S S.mails (Bank b) (bank_handles S (Bank b) b.0 m o)
+  at_bank None = none-sent S (Bank b)
+  at_bank (Some x) = one-sent S (bank_handles S (Bank b) b.0 m (Some x)) (Bank b) (bank_gets x m).1 refl refl
+by-mail S Keeper m =
+    record {
+      outs = letters S.setting.shape.cores (keeper_gets S.keeper m).1;
+      mails = all_mails-append Keeper (next_number S Keeper) (letters S.setting.shape.cores (keeper_gets S.keeper m).1) S.mails;
+      numbers = refl;
+    }
 
-by-handling : (S : State) (took : Option Mail × List Mail) (a : Actor) → receiver_of took.0 ≡ Some a → HasSent (next_number S a) took.1 a (handles S took).mails
-by-handling S (None, rest) a is = none-sent (next_number S a) rest a
+by-handling : (S : State) (took : Option Mail × List Mail) (a : Actor) → receiver_of took.0 ≡ Some a → HasSent (record S { mails = took.1 }) took.1 a (handles S took)
+by-handling S (None, rest) a is = none-sent (record S { mails = rest }) a
 by-handling S (Some m, rest) a is = rw (← same_Some m.to a is) (by-mail (record S { mails = rest }) m.to m.message)
 
-by-core : (S : State) (c : CoreId) (a : Actor) (mails : List Mail) → Some (Core c) ≡ Some a → HasSent (next_number S (Core c)) S.mails (Core c) mails → HasSent (next_number S a) S.mails a mails
-by-core S c a mails is sent = rw (← same_Some (Core c) a is) sent
+by-core : (S T : State) (c : CoreId) (a : Actor) → Some (Core c) ≡ Some a → HasSent S S.mails (Core c) T → HasSent S S.mails a T
+by-core S T c a is sent = rw (← same_Some (Core c) a is) sent
 
-by-event : (S : State) (e : Event) (a : Actor) → actor_in S e ≡ Some a → HasSent (next_number S a) (left_in_flight S e) a (next S e).mails
+in-state : (S T : State) (rest : List Mail) (a : Actor) → HasSent (record S { mails = rest }) rest a T → HasSent S rest a T
+in-state S T rest a sent = record { outs = sent.outs; mails = sent.mails; numbers = sent.numbers }
+
+by-event : (S : State) (e : Event) (a : Actor) → actor_in S e ≡ Some a → HasSent S (left_in_flight S e) a (next S e)
 unfolding next actor_in
-by-event S (Instr c) a is = by-core S c a (does_instr S c (slice_get S.nodes c.0)).mails is (at_node (slice_get S.nodes c.0)) where
-  at_node : (o : Option NodeParts) → HasSent (next_number S (Core c)) S.mails (Core c) (does_instr S c o).mails
-  at_node None = none-sent (next_number S (Core c)) S.mails (Core c)
-  at_node (Some n) = one-sent (next_number S (Core c)) S.mails (Core c) (instructed S.setting n).1.sent
-by-event S (Evict c word) a is = by-core S c a (does_evict S c word (slice_get S.nodes c.0)).mails is (at_node (slice_get S.nodes c.0)) where
-  at_node : (o : Option NodeParts) → HasSent (next_number S (Core c)) S.mails (Core c) (does_evict S c word o).mails
-  at_node None = none-sent (next_number S (Core c)) S.mails (Core c)
-  at_node (Some n) = one-sent (next_number S (Core c)) S.mails (Core c) (evicted S.setting n word).1
-by-event S (Arrive c) a is = by-core S c a (does_arrive S c (slice_get S.nodes c.0)).mails is (at_node (slice_get S.nodes c.0)) where
-  at_node : (o : Option NodeParts) → HasSent (next_number S (Core c)) S.mails (Core c) (does_arrive S c o).mails
-  at_node None = none-sent (next_number S (Core c)) S.mails (Core c)
-  at_node (Some n) = one-sent (next_number S (Core c)) S.mails (Core c) (arrives n).1
-by-event S (Handle id) a is = by-handling S (removed id S.mails) a is
+by-event S (Instr c) a is = by-core S (does_instr S c (slice_get S.nodes c.0)) c a is (at_node (slice_get S.nodes c.0)) where
+  at_node : (o : Option NodeParts) → HasSent S S.mails (Core c) (does_instr S c o)
+  at_node None = none-sent S (Core c)
+  at_node (Some n) = one-sent S (does_instr S c (Some n)) (Core c) (instructed S.setting n).1.sent refl refl
+by-event S (Evict c word) a is = by-core S (does_evict S c word (slice_get S.nodes c.0)) c a is (at_node (slice_get S.nodes c.0)) where
+  at_node : (o : Option NodeParts) → HasSent S S.mails (Core c) (does_evict S c word o)
+  at_node None = none-sent S (Core c)
+  at_node (Some n) = one-sent S (does_evict S c word (Some n)) (Core c) (evicted S.setting n word).1 refl refl
+by-event S (Arrive c) a is = by-core S (does_arrive S c (slice_get S.nodes c.0)) c a is (at_node (slice_get S.nodes c.0)) where
+  at_node : (o : Option NodeParts) → HasSent S S.mails (Core c) (does_arrive S c o)
+  at_node None = none-sent S (Core c)
+  at_node (Some n) = one-sent S (does_arrive S c (Some n)) (Core c) (arrives n).1 refl refl
+by-event S (Handle id) a is = in-state S (handles S (removed id S.mails)) (removed id S.mails).1 a (by-handling S (removed id S.mails) a is)
 
 -- the mails carry what was sent
 carried : (actor : Actor) (number : ℕ) (outs : List Outgoing) → map outgoing_of (mails_of actor number outs) ≡ outs
@@ -105,4 +118,9 @@ told S e a is outs mails =
 pub sent-joins : (S : State) (e : Event) (a : Actor) → actor_in S e ≡ Some a → (next S e).mails ≡ left_in_flight S e ++ mails_of a (next_number S a) (sent_in S e)
 sent-joins S e a is =
     let sent = by-event S e a is in
-    sent.1 ∙ ap (λ (outs : List Outgoing). left_in_flight S e ++ mails_of a (next_number S a) outs) (sym (told S e a is sent.0 sent.1))
+    sent.mails ∙ ap (λ (outs : List Outgoing). left_in_flight S e ++ mails_of a (next_number S a) outs) (sym (told S e a is sent.outs sent.mails))
+
+pub sent-numbers : (S : State) (e : Event) (a : Actor) → actor_in S e ≡ Some a → (next S e).numbers ≡ slice_set S.numbers (actor_index_in S a) (next_number S a + length (sent_in S e))
+sent-numbers S e a is =
+    let sent = by-event S e a is in
+    sent.numbers ∙ ap (λ (outs : List Outgoing). slice_set S.numbers (actor_index_in S a) (next_number S a + length outs)) (sym (told S e a is sent.outs sent.mails))

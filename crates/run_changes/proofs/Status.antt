@@ -1,19 +1,25 @@
 -- The changes of an event lead from the phase, the wait and the flags that its core had to those that it has.
-use Rattle.std.proofs.Common.{◌≡◌, ℕ, ◌+◌, ◌==◌, ◌&&◌, not, nat_lt, Bool, true, false, cond, length, List, [], ◌∷◌, ◌++◌, Option, Some, refl, sym, ◌∙◌, arith}
+use Rattle.std.proofs.Common.{◌≡◌, ℕ, ◌+◌, ◌==◌, ◌&&◌, not, nat_lt, Bool, true, false, cond, length, List, [], ◌∷◌, ◌++◌, Option, Some, None, refl, sym, ◌∙◌, arith}
 use Rattle.std.proofs.lemmas.Bool.Decides.{nat_tests}
 use Rattle.std.specs.List.{fold}
+use Rattle.std.specs.Option.{option_map}
 use Rattle.dn_base.specs.declared.ids.LockId.{LockId}
+use Rattle.region_table.specs.declared.declared.TaskDecl.{TaskDecl}
+use Rattle.region_table.specs.Tasks.{declared}
 use Rattle.rv_core.specs.declared.need.Need.{Need}
+use Rattle.rv_core.specs.Task.{started}
+use Rattle.write_signature.specs.Signature.{empty}
 use Rattle.rv_core.specs.declared.task.End.{End}
 use Rattle.dn_base.specs.declared.ids.LoadSeen.{LoadSeen}
 use Rattle.message_net.specs.declared.message.Message.{Message}
 use Rattle.message_net.specs.declared.message.Message.TheVariants as message
 use Rattle.registration_protocol.specs.declared.node.NodeWait.TheVariants as wait
-use Rattle.registration_protocol.specs.Node.{NodeParts, Setting}
+use Rattle.registration_protocol.specs.Node.{NodeParts, Setting, signature_of}
 use Rattle.registration_protocol.specs.OwnEvents.{instructed, evicted, arrives}
 use Rattle.registration_protocol.specs.Messages.{node_gets, go_row, halt_row, begins, becomes}
 use Rattle.registration_protocol.specs.Changes.{KeepsPhase}
 use Rattle.registration_protocol.proofs.PhaseLemmas.{instr-phase, evict-keeps, gets-phase}
+use Rattle.registration_protocol.proofs.SignLemmas.{begin-signature}
 use Rattle.run_changes.specs.declared.change.Change.{Change}
 use Rattle.run_changes.specs.declared.change.Change.TheVariants as change
 use Rattle.run_changes.specs.declared.look.EntryBefore.{EntryBefore}
@@ -29,6 +35,8 @@ pub record StatusMoves (n m : NodeParts) : Type 0 where
   pub waits_anew : (n.phase == m.phase) ≡ false → m.waiting ≡ wait.None
   pub comes_anew : (n.phase == m.phase) ≡ false → m.arrived ≡ false
   pub stays_halted : (n.phase == m.phase) ≡ false → m.halted ≡ n.halted
+  pub holds_anew : (n.phase == m.phase) ≡ false → locks_held m.task ≡ 0
+  pub signs_anew : (n.phase == m.phase) ≡ false → (l : ℕ) → signature_of m l ≡ empty m.phase
 
 -- ---- the parts of a node that stays in its phase
 
@@ -111,7 +119,7 @@ status-leads n m needs es seen moves =
 
 -- ---- events
 
-same-phase : (a b : ℕ) → b ≡ a → (a == b) ≡ false → ⊥
+pub same-phase : (a b : ℕ) → b ≡ a → (a == b) ≡ false → ⊥
 same-phase a b same e = grind (arith, nat_tests, same, e)
 
 -- a node whose phase and flags stay
@@ -123,6 +131,8 @@ keeps n m k =
       waits_anew = λ e. absurd (same-phase n.phase m.phase k.phase e);
       comes_anew = λ e. absurd (same-phase n.phase m.phase k.phase e);
       stays_halted = λ e. k.halted;
+      holds_anew = λ e. absurd (same-phase n.phase m.phase k.phase e);
+      signs_anew = λ e. absurd (same-phase n.phase m.phase k.phase e);
     }
 
 rests : (n : NodeParts) → StatusMoves n n
@@ -142,6 +152,8 @@ moves-arrive n =
       waits_anew = λ e. absurd (same-phase n.phase n.phase refl e);
       comes_anew = λ e. absurd (same-phase n.phase n.phase refl e);
       stays_halted = λ e. refl;
+      holds_anew = λ e. absurd (same-phase n.phase n.phase refl e);
+      signs_anew = λ e. absurd (same-phase n.phase n.phase refl e);
     }
 
 halted-now : (n : NodeParts) → StatusMoves n (record n { halted = true })
@@ -152,6 +164,8 @@ halted-now n =
       waits_anew = λ e. absurd (same-phase n.phase n.phase refl e);
       comes_anew = λ e. absurd (same-phase n.phase n.phase refl e);
       stays_halted = λ e. absurd (same-phase n.phase n.phase refl e);
+      holds_anew = λ e. absurd (same-phase n.phase n.phase refl e);
+      signs_anew = λ e. absurd (same-phase n.phase n.phase refl e);
     }
 
 moves-halt : (n : NodeParts) → StatusMoves n (halt_row n).0
@@ -167,6 +181,11 @@ third true false c d e = cc
 third false b c d e = cc
 third true true true false e = cc
 
+-- a task that starts holds no lock
+started-free : (o : Option TaskDecl) → locks_held (option_map started o) ≡ 0
+started-free None = refl
+started-free (Some d) = refl
+
 moves-go : (C : Setting) (n : NodeParts) (phase : ℕ) → StatusMoves n (go_row C n phase).0
 moves-go C n phase = by_test (n.arrived && not n.halted && (phase == n.phase + 1) && nat_lt phase (length C.program.phases)) refl where
   by_test : (t : Bool) → (n.arrived && not n.halted && (phase == n.phase + 1) && nat_lt phase (length C.program.phases)) ≡ t → StatusMoves n (cond t (becomes (begins C n phase)) (becomes n)).0
@@ -180,6 +199,8 @@ moves-go C n phase = by_test (n.arrived && not n.halted && (phase == n.phase + 1
         waits_anew = λ other. refl;
         comes_anew = λ other. refl;
         stays_halted = λ other. refl;
+        holds_anew = λ other. started-free (declared C.program phase n.core);
+        signs_anew = λ other l. begin-signature C n phase l;
       }
 
 pub moves-message : (C : Setting) (n : NodeParts) (m : Message) → StatusMoves n (node_gets C n m).0

@@ -95,7 +95,7 @@ module _ {X : Type 0} (step : X → Change → X) (gone : (w : WordId) → Leave
       (all-append (Leaves step) (flag_change n.arrived m.arrived change.Arrived) _ (all-flag (Leaves step) n.arrived m.arrived change.Arrived arrived)
       (all-flag (Leaves step) n.halted m.halted change.Halted halted))))
 
-  to-task : (x y : X) (n m : NodeParts) (needs : Option Need) (es : List EntryBefore) (seen : Option LoadSeen) → (n.phase == m.phase) ≡ true → fold step x (task_change n.task m.task) ≡ y
+  pub to-task : (x y : X) (n m : NodeParts) (needs : Option Need) (es : List EntryBefore) (seen : Option LoadSeen) → (n.phase == m.phase) ≡ true → fold step x (task_change n.task m.task) ≡ y
       → fold step x (core_changes (node_look n needs es) seen (Some m)) ≡ y
   to-task x y n m needs es seen same is =
       behind step x y (node_changes (node_look n needs es) m) _

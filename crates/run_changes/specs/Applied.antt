@@ -1,13 +1,17 @@
--- How changes, applied one after the other, change a core's state, part by part.
-use Rattle.std.specs.Prelude.{◌≡◌, ℕ, ◌+◌, ◌==◌, ◌||◌, Bool, true, false, List, [], ◌∷◌, Option, Some, None, if◌then◌else◌}
-use Rattle.std.specs.List.{fold}
+-- What changes make of a core's state, part by part, where they are applied one after the other.
+use Rattle.std.specs.Prelude.{◌≡◌, ℕ, ◌+◌, ◌==◌, ◌||◌, Bool, true, false, List, [], ◌∷◌, length, map, Option, Some, None, if◌then◌else◌}
+use Rattle.std.specs.List.{fold, list_any, range_with_len}
+use Rattle.std.specs.Option.{option_map}
+use Rattle.dn_base.specs.declared.ids.CoreId.{CoreId}
 use Rattle.rv_core.specs.declared.task.End.{End}
 use Rattle.rv_core.specs.declared.task.TaskState.{TaskState}
 use Rattle.rv_core.specs.Task.{retires_at}
 use Rattle.write_signature.specs.declared.signature.Signature.{Signature}
 use Rattle.write_signature.specs.Signature.{empty}
 use Rattle.word_cache.specs.declared.row.Entry.{Entry}
+use Rattle.queue_lock.specs.Lock.{Lock, is_core}
 use Rattle.registry_bank.specs.declared.bank.BankWord.{BankWord}
+use Rattle.phase_barrier.specs.Barrier.{Barrier}
 use Rattle.registration_protocol.specs.declared.node.NodeWait.{NodeWait}
 use Rattle.registration_protocol.specs.declared.node.NodeWait.TheVariants as wait
 use Rattle.registration_protocol.specs.Node.{NodeParts, entry_of}
@@ -93,7 +97,29 @@ abbrev pub home_step : ℕ → Option BankWord → Change → Option BankWord
 home_step w x (change.Home word there) = if word.0 == w then Some there else x
 home_step w x _ = x
 
--- the changes lead from a core's phase, wait and flags to those of another node
+-- a lock at its home, with this holder and these cores that wait, and with this signature
+abbrev pub with_queue : Option CoreId → List CoreId → Lock → Lock
+with_queue holder waiting h = record h { holder = holder; queue = waiting }
+
+abbrev pub with_kept : Signature → Lock → Lock
+with_kept s h = record h { kept = s }
+
+-- what a lock is at its home
+abbrev pub lock_step : ℕ → Option Lock → Change → Option Lock
+lock_step l x (change.Queue lock holder waiting) = if lock.0 == l then option_map (with_queue holder waiting) x else x
+lock_step l x (change.Signed lock s) = if lock.0 == l then option_map (with_kept s) x else x
+lock_step l x _ = x
+
+-- for each of so many cores whether it is among those that have arrived
+abbrev pub marks_of : ℕ → List CoreId → List Bool
+marks_of cores arrived = map (λ (core : ℕ). list_any (is_core core) arrived) (range_with_len 0 cores)
+
+-- the keeper, of which a change tells all that ever changes
+abbrev pub keeper_step : Barrier → Change → Barrier
+keeper_step k (change.Barrier phase bad arrived) = record k { phase = phase.0; bad = bad; arrived = marks_of (length k.arrived) arrived }
+keeper_step k _ = k
+
+-- changes lead from a core's phase, wait and flags to another's
 pub record StatusFollows (n : NodeParts) (changes : List Change) (m : NodeParts) : Type 0 where
   pub phase : fold phase_step n.phase changes ≡ m.phase
   pub waiting : fold wait_step n.waiting changes ≡ m.waiting

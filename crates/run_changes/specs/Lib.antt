@@ -3,3 +3,4 @@ pub mod Changes
 pub mod Events
 pub mod Since
 pub mod Applied
+pub mod Leads
