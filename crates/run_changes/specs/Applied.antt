@@ -110,7 +110,7 @@ lock_step l x (change.Queue lock holder waiting) = if lock.0 == l then option_ma
 lock_step l x (change.Signed lock s) = if lock.0 == l then option_map (with_kept s) x else x
 lock_step l x _ = x
 
--- for each of so many cores whether it is among those that have arrived
+-- for each of `cores` cores whether it is among those that have arrived
 abbrev pub marks_of : ℕ → List CoreId → List Bool
 marks_of cores arrived = map (λ (core : ℕ). list_any (is_core core) arrived) (range_with_len 0 cores)
 

@@ -1,4 +1,4 @@
-//! What an event changes and leaves alone, for whoever goes on from one state to the next by what it is told.
+//! What an event changes and leaves alone, for callers that compute the next state from the changes that they are told.
 //! These are laws: functions that do nothing, whose contracts say it.
 ghost use Rattle.std.specs.Prelude.{◌≡◌, ◌≢◌, ◌+◌, ◌++◌, ◌∷◌, [], ℕ, true, length, List, Option, Some, slice_get, slice_set};
 ghost use Rattle.std.specs.List.{fold};
@@ -34,7 +34,7 @@ pub fn an_event_changes_its_actor_alone()
     ensures keeper { (S : State) (e : Event) → actor_in S e ≢ Some Keeper → (next S e).keeper ≡ S.keeper }
 {}
 
-/// What an event sends joins the mails in flight, behind those that are left: they are the mails of the actor that makes the event, numbered
+/// What an event sends joins the mails in flight, after those that are left: they are the mails of the actor that makes the event, numbered
 /// on from its next number, which goes on by as many. A mail that is handled leaves.
 pub fn what_is_sent_joins_the_mails()
     ensures mails { (S : State) (e : Event) (actor : Actor) → actor_in S e ≡ Some actor
@@ -114,7 +114,7 @@ pub fn an_events_changes_lead_on()
     ensures { (S : State) (e : Event) → IsMachine S → enabled S e ≡ true → Leads S (changes_told S e ∷ []) (next S e) }
 {}
 
-/// From the beginning of a machine the changes that lead to one of its states, and behind them those that each event of a run from there
+/// From the beginning of a machine the changes that lead to one of its states, and after them those that each event of a run from there
 /// tells, lead to the state after the run.
 pub fn the_changes_of_a_run_lead_on()
     ensures { (S : State) (made : ℕ) (events : List Event) → IsSound S made → IsRun S events

@@ -94,7 +94,7 @@ pub record IsPicture (L : Located) (s : TraceShape) (o : ChartOptions) (events :
   pub is : IsChartOf L.program (shape_told L.program s) s.fuel events (range_for o) (numbers_in timing.links.items) o.columns chart
   pub answer : out ≡ made (svg_of chart L)
 
--- the first row, or the page's first event, would be behind the run's last event, and the words are refused
+-- the first row, or the page's first event, would be after the run's last event, and the words are refused
 pub record IsPastEnd (first : ℕ) (events : List Event) (out : Output) : Type 0 where
   pub behind : last_number events < first
   pub answer : out ≡ usage

@@ -73,7 +73,7 @@ fn view_made(alloc: Global, view: &View, document: &[u8]) -> Result<Output, Stop
 /// asked for, the words are refused.
 ///
 /// In the mode page it is the data of the page of the run, as one JSON text: without a title, with the events that the options ask for and
-/// the run's longest chain by the options' ticks. Where the page's first event would be behind the run's last one, the words are refused.
+/// the run's longest chain by the options' ticks. Where the page's first event would be after the run's last one, the words are refused.
 /// The HTML around the data is no part of the answer: the launcher of the program writes it, from `tools/page.html`.
 ///
 /// # Errors

@@ -87,7 +87,7 @@ fn data(
     })
 }
 
-/// The data of a run's page, or the refusal of a page that would begin behind the run's last event.
+/// The data of a run's page, or the refusal of a page that would begin after the run's last event.
 fn paged(alloc: Global, options: &PageOptions, kept: KeptRun) -> Result<Output, Memory>
     requires limits { IsPageInRange options.now }
     requires kept { IsViewable kept }
