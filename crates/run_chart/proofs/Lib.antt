@@ -9,3 +9,5 @@ pub mod Among
 pub mod Rows
 pub mod Behind
 pub mod RangeRows
+pub mod Senders
+pub mod Shown

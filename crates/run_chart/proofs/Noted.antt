@@ -54,6 +54,23 @@ noted-none (s ∷ ss) (m ∷ ms) id line same none = by_test (same_id m.id id) r
       let zero_here : bit (of_id id m) ≡ 0 = rw e refl in
       rw other (rest (omega (arith, zero_here, all, none)))
 
+-- of an id that a mail in flight has a line is noted, whatever line would be taken else
+pub noted-known : (sent : List SentMail) (mails : List Mail) (id : MailId) (line other : Option ℕ) → AreNotedFor sent mails → 1 ≤ count_of id mails → noted_line id line sent ≡ noted_line id other sent
+noted-known [] [] id line other same some = absurd (omega (arith, some))
+noted-known [] (m ∷ ms) id line other same some = absurd (cc)
+noted-known (s ∷ ss) [] id line other same some = absurd (cc)
+noted-known (s ∷ ss) (m ∷ ms) id line other same some =
+    by_test (same_id s.id id) refl (noted-known ss ms id line other (same-tail s.id m.id (map (λ (x : SentMail). x.id) ss) (map (λ (x : Mail). x.id) ms) same))
+  where
+    named : s.id ≡ m.id
+    named = same-head s.id m.id (map (λ (x : SentMail). x.id) ss) (map (λ (x : Mail). x.id) ms) same
+
+    by_test : (t : Bool) → same_id s.id id ≡ t → (1 ≤ count_of id ms → noted_line id line ss ≡ noted_line id other ss) → cond t s.line (noted_line id line ss) ≡ cond t s.line (noted_line id other ss)
+    by_test true e rest = refl
+    by_test false e rest =
+        let none_here : bit (of_id id m) ≡ 0 = rw (sym named, e) refl in
+        rest (omega (arith, some, none_here, sum_by-cons (λ (x : Mail). cond (of_id id x) 1 0) m ms))
+
 distinct-tail : (m : Mail) (ms : List Mail) → AreDistinct (m ∷ ms) → AreDistinct ms
 distinct-tail m ms distinct id = omega (arith, distinct id, sum_by-cons (λ (x : Mail). cond (of_id id x) 1 0) m ms)
 

@@ -35,10 +35,10 @@ get-pushed (z ∷ xs) x y (suc k) here = one (get-pushed xs x y k here) where
 abbrev pub OfEach : (ChartRow → Type 0) → List ChartRow → Type 0
 OfEach Q rows = (i : ℕ) (row : ChartRow) → slice_get rows i ≡ Some row → Q row
 
-no-row : (Q : ChartRow → Type 0) → OfEach Q []
+pub no-row : (Q : ChartRow → Type 0) → OfEach Q []
 no-row Q i row here = absurd (none-some row here)
 
-one-more : (Q : ChartRow → Type 0) (rows : List ChartRow) (last : ChartRow) → OfEach Q rows → Q last → OfEach Q (rows ++ last ∷ [])
+pub one-more : (Q : ChartRow → Type 0) (rows : List ChartRow) (last : ChartRow) → OfEach Q rows → Q last → OfEach Q (rows ++ last ∷ [])
 one-more Q rows last all new i row here = by_case (get-pushed rows last row i here) where
   by_case : (slice_get rows i ≡ Some row) ⊎ ((i ≡ length rows) × (last ≡ row)) → Q row
   by_case (inl there) = all i row there
@@ -49,7 +49,7 @@ abbrev pub rows_in : Option Drawing → List ChartRow
 rows_in None = []
 rows_in (Some d) = d.rows
 
-chart-rows : (frame : Frame) (o : Option Drawing) → (chart_in frame o).rows ≡ rows_in o
+pub chart-rows : (frame : Frame) (o : Option Drawing) → (chart_in frame o).rows ≡ rows_in o
 chart-rows frame None = refl
 chart-rows frame (Some d) = refl
 
@@ -149,7 +149,7 @@ run-split m (e ∷ es) (suc n) run = one (run-split (moved m e) es n run.1) wher
   one : (k : Made) × (led_to (moved m e) (take n es) ≡ Some k) × IsRun k.state (drop n es) → (k : Made) × (led_to m (e ∷ take n es) ≡ Some k) × IsRun k.state (drop n es)
   one (k, led, rest) = (k, rw run.0 led, rest)
 
-run-first : (S : State) (events : List Event) (n : ℕ) → IsRun S events → IsRun S (take n events)
+pub run-first : (S : State) (events : List Event) (n : ℕ) → IsRun S events → IsRun S (take n events)
 run-first S [] n run = rw (take-none n) tt
 run-first S (e ∷ es) zero run = tt
 run-first S (e ∷ es) (suc n) run = (run.0, run-first (next S e) es n run.1)

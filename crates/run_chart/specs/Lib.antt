@@ -6,3 +6,4 @@ pub mod Marks
 pub mod Drawing
 pub mod Finishing
 pub mod Charts
+pub mod Arrows

@@ -17,5 +17,6 @@ pub use charting::chart;
 pub use drawing::Range;
 pub use finishing::Columns;
 pub use laws::{
-    each_event_of_the_range_has_one_row, rows_do_not_overlap, the_events_of_the_chain_are_marked,
+    arrows_lead_from_the_senders_of_mails, each_event_of_the_range_has_one_row,
+    rows_and_arrows_have_columns, rows_do_not_overlap, the_events_of_the_chain_are_marked,
 };
