@@ -1,3 +1,4 @@
+use Rattle.front_end.specs.declared.programs.Stop.TheVariants.{Memory}
 use Rattle.view_top.proofs.Kept.{is-located, kept-run, viewable, no-run, handed-on}
 use Rattle.view_top.proofs.documents.kept_run.Goals as goal
 
@@ -20,3 +21,6 @@ returns-in_err-run-clause-stop c =
     c.in_ok-checked.ensures.checked c.in_err-run.ensures.stop
     in
     handed-on c.from_residual-in_err-run.result _ _ c.from_residual-in_err-run.ensures.1 refused
+
+pub returns-in_err-copy-clause-stop : goal.returns-in_err-copy-clause-stop
+returns-in_err-copy-clause-stop c = handed-on c.from_residual-in_err-copy.result Memory _ c.from_residual-in_err-copy.ensures.1 tt
