@@ -76,26 +76,32 @@ impl Log {
         })
     }
 
-    /// Notes an event of a kind, and the grant that it tells. The kind's count is below the greatest of its type.
+    /// Notes an event of a kind, without the grant that it may tell. The kind's count is below the greatest of its type.
     ///
     /// # Errors
     /// `Memory` where there is no room; the log is then of no more use.
     #[inline(always)]
-    pub(crate) fn note_event(
-        &mut self,
-        event: Event,
-        kind: EventKind,
-        granted: Option<Grant>,
-    ) -> Result<(), Memory>
+    pub(crate) fn note_event(&mut self, event: Event, kind: EventKind) -> Result<(), Memory>
         requires { kind_count kind self.old.counts < 18446744073709551615 }
-        ensures { OnOk result (self.new ≡ with_told event kind granted None self.old) }
+        ensures { OnOk result (self.new ≡ with_told event kind None None self.old) }
     {
         self.events.push(event)?;
-        if let Some(grant) = granted {
-            self.grants.push(grant)?;
-        }
         self.counts.add(kind);
         Ok(())
+    }
+
+    /// Notes the grant that an event tells, if it tells one.
+    ///
+    /// # Errors
+    /// `Memory` where there is no room; the log is then of no more use.
+    #[inline(always)]
+    pub(crate) fn note_grant(&mut self, granted: Option<Grant>) -> Result<(), Memory>
+        ensures { OnOk result (self.new ≡ record self.old { grants = self.old.grants ++ listed granted }) }
+    {
+        match granted {
+            Some(grant) => self.grants.push(grant),
+            None => Ok(()),
+        }
     }
 
     /// Notes an event. Its kind's count is below the greatest of its type.
@@ -108,7 +114,8 @@ impl Log {
         ensures { OnOk result (self.new ≡ with_event happened self.old) }
     {
         let told = happened.observed;
-        self.note_event(happened.event, told.kind, told.granted)?;
+        self.note_event(happened.event, told.kind)?;
+        self.note_grant(told.granted)?;
         note_end(&mut self.ends, happened.end);
         Ok(())
     }
