@@ -2,6 +2,7 @@
 use Rattle.std.proofs.Common.{◌≡◌, ℕ, true, List, ◌++◌, slice_get, map, Option, Some, None, refl, sym, ap, ◌∙◌, Bool, cond, false}
 use Rattle.std.specs.Option.{option_or}
 use Rattle.std.proofs.lemmas.Option.{none-some, same_Some}
+use Rattle.std.proofs.lemmas.List.{append-nil}
 use Rattle.dn_base.specs.declared.ids.CoreId.{CoreId}
 use Rattle.dn_base.specs.declared.ids.Grant.{Grant}
 use Rattle.dn_base.specs.declared.ids.WordId.{WordId}
@@ -15,6 +16,7 @@ use Rattle.registration_protocol.specs.Node.{NodeParts, Setting, need_now}
 use Rattle.registration_protocol.specs.OwnEvents.{may_instr, may_evict, may_arrive, me, wanted_by, victim_for, eviction_of, eviction, arrival, own_event}
 use Rattle.machine_rules.specs.State.{State}
 use Rattle.machine_rules.specs.Next.{observed, kind_in, granted_in}
+use Rattle.run_agreement.specs.Agreed.{listed}
 use Rattle.dn_machine.specs.declared.log.Happened.{Happened}
 use Rattle.dn_machine.specs.declared.log.Log.{Log}
 use Rattle.dn_machine.specs.declared.picking.Choice.{Choice}
@@ -57,6 +59,11 @@ own-told S (Handle id) core is = absurd (none-some core is)
 pub noted-behind : (log first last : Log) (h : Happened) (kind : EventKind) (granted : Option Grant) → first ≡ with_told h.event kind granted None log → h.observed.kind ≡ kind → h.observed.granted ≡ granted
     → last ≡ record first { ends = with_end h.end first.ends } → last ≡ with_event h log
 noted-behind log first last h kind granted noted same_kind same_grant behind = rw (behind, noted, same_kind, same_grant) refl
+
+-- an event is noted, and what it grants behind it
+pub granted-behind : (log first second : Log) (event : Event) (kind : EventKind) (granted : Option Grant) → first ≡ with_told event kind None None log
+    → second ≡ record first { grants = first.grants ++ listed granted } → second ≡ with_told event kind granted None log
+granted-behind log first second event kind granted noted behind = rw (behind, noted, append-nil log.grants) refl
 
 -- the own event of a node is of its core
 own-is : (C : Setting) (n : NodeParts) (e : Event) → own_event C n ≡ Some e → own_core e ≡ Some (me n)

@@ -76,29 +76,35 @@ impl Log {
         })
     }
 
-    /// Notes an event by its kind, and the grant that it tells. The count of the kind must be below 2^64 - 1.
+    /// Notes an event of a kind, without the grant that it may tell. The kind's count is below the greatest of its type.
     ///
     /// # Errors
     /// `Memory` if there is no room; the log can't be used any more then.
     #[inline(always)]
-    pub(crate) fn note_event(
-        &mut self,
-        event: Event,
-        kind: EventKind,
-        granted: Option<Grant>,
-    ) -> Result<(), Memory>
+    pub(crate) fn note_event(&mut self, event: Event, kind: EventKind) -> Result<(), Memory>
         requires { kind_count kind self.old.counts < 18446744073709551615 }
-        ensures { OnOk result (self.new ≡ with_told event kind granted None self.old) }
+        ensures { OnOk result (self.new ≡ with_told event kind None None self.old) }
     {
         self.events.push(event)?;
-        if let Some(grant) = granted {
-            self.grants.push(grant)?;
-        }
         self.counts.add(kind);
         Ok(())
     }
 
-    /// Notes an event. The count of its kind must be below 2^64 - 1.
+    /// Notes the grant that an event tells, if it tells one.
+    ///
+    /// # Errors
+    /// `Memory` where there is no room; the log is then of no more use.
+    #[inline(always)]
+    pub(crate) fn note_grant(&mut self, granted: Option<Grant>) -> Result<(), Memory>
+        ensures { OnOk result (self.new ≡ record self.old { grants = self.old.grants ++ listed granted }) }
+    {
+        match granted {
+            Some(grant) => self.grants.push(grant),
+            None => Ok(()),
+        }
+    }
+
+    /// Notes an event. Its kind's count is below the greatest of its type.
     ///
     /// # Errors
     /// `Memory` if there is no room; the log can't be used any more then.
@@ -108,7 +114,8 @@ impl Log {
         ensures { OnOk result (self.new ≡ with_event happened self.old) }
     {
         let told = happened.observed;
-        self.note_event(happened.event, told.kind, told.granted)?;
+        self.note_event(happened.event, told.kind)?;
+        self.note_grant(told.granted)?;
         note_end(&mut self.ends, happened.end);
         Ok(())
     }

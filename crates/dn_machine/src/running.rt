@@ -90,8 +90,8 @@ impl Content {
         ensures came { OnOk result (CameAndNoted (state_of (setting context.now) self.old) (state_of (setting context.now) self.new) event log.old log.new) }
         ensures known { KnowsOwn (setting context.now) self.new }
     {
-        // It is noted first, so that it needn't be kept until it was made. It grants nothing.
-        log.note_event(event, event.own_kind(), None)?;
+        // It is noted first, so that it needn't be kept until it has come. It grants nothing.
+        log.note_event(event, event.own_kind())?;
         self.act(context, event);
         self.note_end(own_core(event), log);
         Ok(())
@@ -119,8 +119,10 @@ impl Content {
         ensures known { KnowsOwn (setting context.now) self.new }
     {
         let mail = self.pool.take_at(place);
+        // It is noted before it is handled, so that its id and its kind needn't be kept until then.
+        log.note_event(Event::Handle(mail.id), mail.message.kind())?;
         let granted = self.deliver(context, mail.to, &mail.message);
-        log.note_event(Event::Handle(mail.id), mail.message.kind(), granted)?;
+        log.note_grant(granted)?;
         self.note_end(core_of(mail.to), log);
         Ok(())
     }

@@ -7,7 +7,7 @@ use Rattle.registration_protocol.specs.Setting.{setting}
 use Rattle.dn_machine.specs.declared.log.Happened.{Happened}
 use Rattle.dn_machine.specs.Content.{state_of}
 use Rattle.dn_machine.specs.Log.{end_there, HasCome}
-use Rattle.dn_machine.proofs.Making.{taken-there, handled-core, noted-behind}
+use Rattle.dn_machine.proofs.Making.{taken-there, handled-core, granted-behind, noted-behind}
 use Rattle.dn_machine.proofs.MailEvents.{handle-next, handle-told, whole-taken}
 use Rattle.dn_machine.proofs.content.Content.make_handling.Goals as goal
 
@@ -33,4 +33,5 @@ returns-clause-came c n there =
     }
     in
     let event : Handle m.id ≡ Handle n.id = ap (λ (x : Mail). Handle x.id) (same_Some m n (sym c.take_at-mail.ensures.value ∙ there)) in
-    record { told = told; event = event; came = came; noted = noted-behind c.args.log.now _ _ told c.kind.result c.deliver-granted.result c.in_ok-note_event.ensures refl refl (c.note_end.ensures C) }
+    let noted = granted-behind c.args.log.now _ _ (Handle m.id) c.kind.result c.deliver-granted.result c.in_ok-note_event.ensures c.in_ok-note_grant.ensures in
+    record { told = told; event = event; came = came; noted = noted-behind c.args.log.now _ _ told c.kind.result c.deliver-granted.result noted refl refl (c.note_end.ensures C) }
