@@ -95,6 +95,7 @@ pub struct Outgoing {
 
 impl Message {
     /// The kind of event in which the message is handled: the one with its name.
+    #[inline(always)]
     pub fn kind(&self) -> EventKind
         ensures { result ≡ kind_of self.now }
     {
@@ -119,6 +120,7 @@ impl Message {
 
 impl Outgoing {
     /// A message to a core.
+    #[inline(always)]
     pub fn to_core(core: CoreId, message: Message) -> Outgoing
         ensures { Some result ≡ to_core core message }
     {
@@ -129,6 +131,7 @@ impl Outgoing {
     }
 
     /// A message to the home of the word or lock with this number, in a machine with so many banks.
+    #[inline(always)]
     pub fn to_home(banks: u32, number: u32, message: Message) -> Outgoing
         requires { 0 < banks }
         ensures { Some result ≡ to_home banks number message }
@@ -150,6 +153,7 @@ impl Outgoing {
     }
 
     /// The mail that the message becomes, with its sender and that sender's number for it.
+    #[inline(always)]
     pub fn mail(&self, from: Actor, number: u32) -> Mail
         ensures { result ≡ mail_of from number self.now }
     {

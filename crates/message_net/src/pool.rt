@@ -82,6 +82,7 @@ fn free_place(places: &mut Option<Places>, mails: &[Mail], place: u32)
 }
 
 /// Takes the mail at this place out of the row; the last mail moves into the free place.
+#[inline(always)]
 fn take_out(row: &mut Vec<Mail>, place: usize) -> Mail
     requires { place < length row.old.items }
     ensures value { slice_get row.old.items place ≡ Some result }
@@ -154,6 +155,7 @@ impl Pool {
     }
 
     /// Adds a mail at the end, in the room that was made for it; takes no memory.
+    #[inline(always)]
     pub fn post_reserved(&mut self, mail: Mail)
         requires new { count_of mail.id self.old.mails ≡ 0 }
         requires room { length self.old.mails < 4294967295 }
@@ -183,6 +185,7 @@ impl Pool {
 
     /// Takes the mail at this place out; the last mail moves into the free place, and the room of the mail is spare. It looks
     /// for nothing, and takes no memory.
+    #[inline(always)]
     pub fn take_at(&mut self, place: u32) -> Mail
         requires { place < length self.old.mails }
         ensures value { slice_get self.old.mails place ≡ Some result }
@@ -210,6 +213,7 @@ impl Pool {
     }
 
     /// How many mails there are.
+    #[inline(always)]
     pub fn count(&self) -> u32
         ensures count { result ≡ length self.now.mails }
         ensures distinct { AreDistinct self.now.mails }
@@ -218,6 +222,7 @@ impl Pool {
     }
 
     /// The mail at this place.
+    #[inline(always)]
     pub fn at(&self, place: u32) -> Mail
         requires { place < length self.now.mails }
         ensures { slice_get self.now.mails place ≡ Some result }

@@ -26,6 +26,7 @@ use word_cache::{Entry, Probe, WordCache};
 use write_signature::Signature;
 
 /// Whether the task may use the word whatever locks it holds.
+#[inline(always)]
 fn is_plain(task: &TaskDecl, word: WordId) -> bool
     ensures { result ≡ uses_plainly task.now word.0 }
 {
@@ -33,6 +34,7 @@ fn is_plain(task: &TaskDecl, word: WordId) -> bool
 }
 
 /// The next instruction retires: it needs nothing, or is a store, an acquire or a release.
+#[inline(always)]
 fn advance(task: &mut Option<TaskState>, context: &Context<'_>, declared: &TaskDecl, need: &Need)
     requires look { IfSome task.old (IsNeed (setting context.now) declared.now need.now) }
     requires kind { IsAdvance need.now }
@@ -44,6 +46,7 @@ fn advance(task: &mut Option<TaskState>, context: &Context<'_>, declared: &TaskD
 }
 
 /// The next instruction retires, a load of a word of this value.
+#[inline(always)]
 fn load(
     task: &mut Option<TaskState>,
     context: &Context<'_>,
@@ -61,6 +64,7 @@ fn load(
 }
 
 /// The task ends.
+#[inline(always)]
 fn stop(task: &mut Option<TaskState>, cause: End)
     requires { IfSome task.old (λ t. (t.end ≡ None) × (t.retired < 4294967295)) }
     ensures { task.new ≡ option_map (stopped cause) task.old }
@@ -71,6 +75,7 @@ fn stop(task: &mut Option<TaskState>, cause: End)
 }
 
 /// Notes a store of the task to the word in the signatures of the locks.
+#[inline(always)]
 fn sign(
     signatures: &mut Sequence<Signature>,
     task: &Option<TaskState>,
@@ -95,6 +100,7 @@ struct Target {
 }
 
 /// Gives the word this entry, at the place that the probe told.
+#[inline(always)]
 fn enter(cache: &mut WordCache, word: WordId, probe: Probe, entry: Entry)
     requires probe { IsProbe probe (lookup word.0 cache.old.pairs) (has_room cache.old word.0) }
     requires room { (is_some (lookup word.0 cache.old.pairs) || has_room cache.old word.0) ≡ true }
@@ -109,6 +115,7 @@ fn enter(cache: &mut WordCache, word: WordId, probe: Probe, entry: Entry)
 
 impl Node {
     /// The node asks a word's home for its value.
+    #[inline(always)]
     fn miss(&mut self, context: &Context<'_>, word: WordId) -> Outgoing
         requires { 0 < (setting context.now).shape.banks }
         ensures node { self.new ≡ (misses (setting context.now) self.old word).0 }
@@ -120,6 +127,7 @@ impl Node {
     }
 
     /// The task loads a word of this value.
+    #[inline(always)]
     fn see(
         &mut self,
         context: &Context<'_>,
@@ -139,6 +147,7 @@ impl Node {
     }
 
     /// A load of the word.
+    #[inline(always)]
     fn load(
         &mut self,
         context: &Context<'_>,
@@ -177,6 +186,7 @@ impl Node {
     }
 
     /// The word after the task's store, where the word's value was `old`.
+    #[inline(always)]
     fn merged(&self, context: &Context<'_>, declared: &TaskDecl, need: &Need, old: u32) -> u32
         requires look { IfSome self.now.task (IsNeed (setting context.now) declared.now need.now) }
         requires kind { IsStore need.now }
@@ -189,6 +199,7 @@ impl Node {
     }
 
     /// A store to the word retires. The core is the word's registrant then, or is to be it.
+    #[inline(always)]
     fn write(
         &mut self,
         context: &Context<'_>,
@@ -215,6 +226,7 @@ impl Node {
     }
 
     /// A store to the word retires, and asks the word's home to make the core its registrant.
+    #[inline(always)]
     fn register(
         &mut self,
         context: &Context<'_>,
@@ -240,6 +252,7 @@ impl Node {
     }
 
     /// A store to the word, which has no entry; `whole` where it gives all four bytes.
+    #[inline(always)]
     fn store_new(
         &mut self,
         context: &Context<'_>,
@@ -272,6 +285,7 @@ impl Node {
     }
 
     /// A store to the word; `whole` where it gives all four bytes.
+    #[inline(always)]
     fn store(
         &mut self,
         context: &Context<'_>,
@@ -404,6 +418,7 @@ impl Node {
 
     /// The node's next instruction, by one look at it.
     #[tactic(auto, unfolding(crate::specs::OwnEvents::instructed))]
+    #[inline(always)]
     fn next(&mut self, context: &Context<'_>, sent: &mut Option<Outgoing>) -> Option<LoadSeen>
         requires none { sent.old ≡ None }
         requires context { IsContext (setting context.now) }
@@ -423,6 +438,7 @@ impl Node {
 
     /// The node's next instruction, as `instr` makes it. What it sends is put into the caller's place, and the load that it completed
     /// is given back. Takes no memory.
+    #[inline(always)]
     pub fn instr_into(
         &mut self,
         context: &Context<'_>,
@@ -442,6 +458,7 @@ impl Node {
     /// The node's next instruction, which may go on: it retires, or asks for what it lacks, or ends the task. A load of a word
     /// that the task uses plainly marks the word's copy. A store enters its word in the signature of each held lock that
     /// guards it. Takes no memory.
+    #[inline(always)]
     pub fn instr(&mut self, context: &Context<'_>) -> Step
         requires context { IsContext (setting context.now) }
         requires fits { Fits (setting context.now) self.old }

@@ -65,6 +65,7 @@ impl Model for Node {
 }
 
 /// What a message brings about that sends nothing and grants nothing.
+#[inline(always)]
 pub(crate) fn nothing() -> Received
     ensures { result ≡ record { sent = None; granted = None } }
 {
@@ -75,6 +76,7 @@ pub(crate) fn nothing() -> Received
 }
 
 /// What a message brings about that makes the node send a message to a core.
+#[inline(always)]
 fn send(core: CoreId, message: Message) -> Received
     ensures { result ≡ record { sent = to_core core message; granted = None } }
 {
@@ -85,6 +87,7 @@ fn send(core: CoreId, message: Message) -> Received
 }
 
 /// A message to the home of the word or lock of this number.
+#[inline(always)]
 pub(crate) fn send_home(context: &Context<'_>, number: u32, message: Message) -> Outgoing
     requires { 0 < (setting context.now).shape.banks }
     ensures { Some result ≡ to_home (setting context.now).shape.banks number message }
@@ -125,6 +128,7 @@ impl Node {
     }
 
     /// Whether no entry is pending.
+    #[inline(always)]
     pub(crate) fn is_settled(&self) -> bool
         ensures { result ≡ is_settled self.now }
     {
@@ -132,6 +136,7 @@ impl Node {
     }
 
     /// Whether the node has a task that hasn't ended.
+    #[inline(always)]
     pub(crate) fn is_running(&self) -> bool
         ensures { result ≡ is_running self.now.task }
     {
@@ -143,6 +148,7 @@ impl Node {
 
     /// Whether the node may arrive at the barrier: it is neither halted nor has it arrived, no task of it goes on, and no
     /// entry is pending. Takes no memory.
+    #[inline(always)]
     pub fn may_arrive(&self) -> bool
         ensures { result ≡ may_arrive self.now }
     {
@@ -163,6 +169,7 @@ impl Node {
     }
 
     /// Whether the node's flags and its wait let an instruction go on.
+    #[inline(always)]
     pub(crate) fn is_ready(&self) -> bool
         ensures { result ≡ (is_active self.now && is_ready self.now.waiting) }
     {
@@ -194,6 +201,7 @@ impl Node {
     }
 
     /// The value of a word that the node waits for comes: it becomes a copy, where the word has no entry and its set has room.
+    #[inline(always)]
     fn fill(&mut self, word: WordId, value: u32)
         ensures { self.new ≡ (fills self.old word value (entry_of self.old word.0)).0 }
     {
@@ -212,6 +220,7 @@ impl Node {
     }
 
     /// The value of a word comes.
+    #[inline(always)]
     pub(crate) fn data(&mut self, word: WordId, value: u32) -> Received
         ensures node { self.new ≡ (data_reply_row self.old word value self.old.waiting).0 }
         ensures received { result ≡ (data_reply_row self.old word value self.old.waiting).1 }
@@ -224,6 +233,7 @@ impl Node {
 
     /// A read is forwarded to the node: the value goes to the reader where the node has it for sure, and else the read goes
     /// back to the word's home.
+    #[inline(always)]
     pub(crate) fn read(&self, context: &Context<'_>, word: WordId, reader: CoreId) -> Received
         requires { 0 < (setting context.now).shape.banks }
         ensures { result ≡ (read_fwd_row (setting context.now) self.now word reader (entry_of self.now word.0)).1 }
@@ -268,6 +278,7 @@ impl Node {
     }
 
     /// The run is over.
+    #[inline(always)]
     pub(crate) fn halt(&mut self) -> Received
         ensures node { self.new ≡ (halt_row self.old).0 }
         ensures received { result ≡ (halt_row self.old).1 }
@@ -279,6 +290,7 @@ impl Node {
     }
 
     /// The home of a word says that the core is its registrant.
+    #[inline(always)]
     pub(crate) fn acknowledged(&mut self, word: WordId) -> Received
         ensures node { self.new ≡ (reg_ack_row self.old word (entry_of self.old word.0)).0 }
         ensures received { result ≡ (reg_ack_row self.old word (entry_of self.old word.0)).1 }
@@ -299,6 +311,7 @@ impl Node {
     }
 
     /// Another core is the registrant of a word now.
+    #[inline(always)]
     pub(crate) fn forwarded(&mut self, word: WordId, core: CoreId) -> Received
         ensures node { self.new ≡ (reg_fwd_row self.old word core (entry_of self.old word.0)).0 }
         ensures received { result ≡ (reg_fwd_row self.old word core (entry_of self.old word.0)).1 }
@@ -312,6 +325,7 @@ impl Node {
     }
 
     /// The home of a word has had it back.
+    #[inline(always)]
     pub(crate) fn given_back(&mut self, word: WordId) -> Received
         ensures node { self.new ≡ (wb_ack_row self.old word (entry_of self.old word.0)).0 }
         ensures received { result ≡ (wb_ack_row self.old word (entry_of self.old word.0)).1 }

@@ -27,6 +27,7 @@ fn shown(end: Option<End>, wait: NodeWait) -> Option<EndShown>
 
 impl Node {
     /// Whether the word's entry may be evicted.
+    #[inline(always)]
     fn may_go(&self, word: WordId) -> bool
         ensures { result ≡ may_go (entry_of self.now word.0) }
     {
@@ -38,6 +39,7 @@ impl Node {
     }
 
     /// Whether the node's flags and its wait let it evict a word.
+    #[inline(always)]
     fn is_idle(&self) -> bool
         ensures { result ≡ (is_active self.now && waits_for_nothing self.now.waiting) }
     {
@@ -82,6 +84,7 @@ impl Node {
     }
 
     /// The cache's victim for the wanted word, if there is one.
+    #[inline(always)]
     fn victim(&self, wanted: Option<WordId>) -> Option<WordId>
         ensures value { result ≡ victim_for self.now wanted }
         ensures evictable { IfSome result (λ w. may_go (entry_of self.now w.0) ≡ true) }
@@ -94,6 +97,7 @@ impl Node {
 
     /// The eviction that the node makes next, whose next instruction lacks a place for the wanted word, if there is one. The
     /// cache's victim is of that word's set, and may go, so neither is tested. The context is there for the clauses alone.
+    #[inline(always)]
     fn eviction(&self, context: &Context<'_>, wanted: Option<WordId>) -> Option<Event>
         requires wanted { wanted ≡ wanted_by self.now (need_now (setting context.now) self.now) }
         ensures value { result ≡ eviction (setting context.now) self.now }
@@ -108,6 +112,7 @@ impl Node {
     }
 
     /// The node's arrival, where it may arrive.
+    #[inline(always)]
     fn arrival(&self) -> Option<Event>
         ensures value { result ≡ arrival self.now }
         ensures none { (result ≡ None) ↔ (may_arrive self.now ≡ false) }
@@ -121,6 +126,7 @@ impl Node {
 
     /// What the node does next by itself: its instruction where that may go on, else the eviction of the cache's victim for
     /// the word that lacks a place, else its arrival at the barrier. Takes no memory.
+    #[inline(always)]
     pub fn own(&self, context: &Context<'_>) -> Option<Event>
         requires context { IsContext (setting context.now) }
         requires fits { Fits (setting context.now) self.now }

@@ -131,6 +131,7 @@ impl Node {
 
     /// What a message makes the node do, by its kind.
     #[tactic(auto, unfolding(crate::specs::Messages::node_gets))]
+    #[inline(always)]
     fn handle(&mut self, context: &Context<'_>, message: Message) -> Received
         requires context { IsContext (setting context.now) }
         requires fits { Fits (setting context.now) self.old }
@@ -154,6 +155,7 @@ impl Node {
     /// answered, grants of locks, and the keeper's Go and Halt.
     ///
     /// A message that comes where none of these says anything changes nothing and sends nothing. Takes no memory.
+    #[inline(always)]
     pub fn receive(&mut self, context: &Context<'_>, message: Message) -> Received
         requires context { IsContext (setting context.now) }
         requires fits { Fits (setting context.now) self.old }

@@ -78,6 +78,7 @@ fn note_at(
 }
 
 /// Notes a store to the word in the signature of each lock that the task holds and that guards the word for its stores.
+#[inline(always)]
 pub(crate) fn note(
     signatures: &mut Sequence<Signature>,
     task: &TaskDecl,

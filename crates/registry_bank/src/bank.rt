@@ -44,6 +44,7 @@ impl Model for Bank {
 }
 
 /// A message to a core.
+#[inline(always)]
 fn send(core: CoreId, message: Message) -> Option<Outgoing>
     ensures { result ≡ to_core core message }
 {
@@ -158,6 +159,7 @@ impl Bank {
     }
 
     /// What the bank holds for a word; None exactly where the word isn't one of this bank's. Takes no memory.
+    #[inline(always)]
     pub fn word(&self, word: WordId) -> Option<BankWord>
         ensures { result ≡ bank_word self.now word.0 }
     {
@@ -182,6 +184,7 @@ impl Bank {
     }
 
     /// Gives one of the bank's words another content.
+    #[inline(always)]
     fn put(&mut self, word: WordId, content: BankWord)
         requires { word.0 / self.old.banks < length self.old.words }
         ensures { self.new ≡ with_word self.old word.0 content }
@@ -190,6 +193,7 @@ impl Bank {
     }
 
     /// A core asks for the value of a word: it gets it, or the registrant is told to send it.
+    #[inline(always)]
     fn read(&self, word: WordId, reader: CoreId) -> Option<Outgoing>
         ensures { result ≡ (reads self.now word reader (bank_word self.now word.0)).1 }
     {
@@ -200,6 +204,7 @@ impl Bank {
     }
 
     /// A core asks to be the registrant of a word, and becomes it; an earlier registrant is told.
+    #[inline(always)]
     fn register(&mut self, word: WordId, core: CoreId) -> Option<Outgoing>
         ensures bank { self.new ≡ (registers self.old word core (bank_word self.old word.0)).0 }
         ensures sent { result ≡ (registers self.old word core (bank_word self.old word.0)).1 }
@@ -266,6 +271,7 @@ impl Bank {
     /// Where the word, the lock or the core is none of this bank or machine, and on all other kinds of message, nothing
     /// happens. Takes no memory.
     #[tactic(auto, unfolding(crate::specs::Bank::bank_gets))]
+    #[inline(always)]
     pub fn handle(&mut self, message: Message) -> Option<Outgoing>
         ensures bank { self.new ≡ (bank_gets self.old message).0 }
         ensures sent { result ≡ (bank_gets self.old message).1 }

@@ -95,6 +95,7 @@ impl WordCache {
     }
 
     /// The word's entry; None exactly where the word has no pair. It looks at the word's set alone, and takes no memory.
+    #[inline(always)]
     pub fn get(&self, word: WordId) -> Option<Entry>
         ensures { result ≡ lookup word.0 self.now.pairs }
     {
@@ -103,6 +104,7 @@ impl WordCache {
 
     /// The word's entry, or whether its set has room where it has none: one pass over the word's set tells what `get` and
     /// `room` tell. Takes no memory.
+    #[inline(always)]
     pub fn probe(&self, word: WordId) -> Probe
         ensures { IsProbe result (lookup word.0 self.now.pairs) (has_room self.now word.0) }
     {
@@ -156,6 +158,7 @@ impl WordCache {
     }
 
     /// How many entries are pending. It looks at no place, and takes no memory.
+    #[inline(always)]
     pub fn pending(&self) -> u32
         ensures { result ≡ pending_count self.now.pairs }
     {
@@ -173,6 +176,7 @@ impl WordCache {
 
     /// As `set`. Where the hint is the place that the last probe of the word gave, no other place is looked at; none and any
     /// other number serve too.
+    #[inline(always)]
     pub fn set_at(&mut self, hint: Option<usize>, word: WordId, entry: Entry)
         requires { (is_some (lookup word.0 self.old.pairs) || has_room self.old word.0) ≡ true }
         ensures { self.new ≡ record self.old { pairs = put word entry self.old.pairs } }
@@ -191,6 +195,7 @@ impl WordCache {
     /// Gives the word, which has no pair, this entry; its pair is the one used last then. Its set has room. Where the hint is the
     /// place that the last probe of the word gave, no other place is looked at; none and any other number serve too. Takes no
     /// memory.
+    #[inline(always)]
     pub fn add_at(&mut self, hint: Option<usize>, word: WordId, entry: Entry)
         requires none { lookup word.0 self.old.pairs ≡ None }
         requires room { has_room self.old word.0 ≡ true }
@@ -217,6 +222,7 @@ impl WordCache {
 
     /// As `change`. Where the hint is the place that the last probe of the word gave, no other place is looked at; none and any
     /// other number serve too.
+    #[inline(always)]
     pub fn change_at(&mut self, hint: Option<usize>, word: WordId, entry: Entry)
         requires { lookup word.0 self.old.pairs ≢ None }
         ensures { self.new ≡ record self.old { pairs = changed word.0 entry self.old.pairs } }
@@ -234,6 +240,7 @@ impl WordCache {
 
     /// As `touch`. Where the hint is the place that the last probe of the word gave, no other place is looked at; none and any
     /// other number serve too.
+    #[inline(always)]
     pub fn touch_at(&mut self, hint: Option<usize>, word: WordId)
         requires { lookup word.0 self.old.pairs ≢ None }
         ensures { self.new ≡ record self.old { pairs = touched word self.old.pairs } }
@@ -257,6 +264,7 @@ impl WordCache {
 
     /// As `remove`. Where the hint is the place that the last probe of the word gave, no other place is looked at; none and any
     /// other number serve too.
+    #[inline(always)]
     pub fn remove_at(&mut self, hint: Option<usize>, word: WordId)
         ensures { self.new ≡ record self.old { pairs = without word.0 self.old.pairs } }
     {

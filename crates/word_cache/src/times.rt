@@ -28,6 +28,7 @@ fn renumber(places: &mut Row, sets: u32, ways: u32) -> u64
 }
 
 /// A time behind those of all places. Only where the clock stands at its last time, all are numbered from 1 again.
+#[inline(always)]
 fn free_time(places: &mut Row, clock: u64, sets: u32, ways: u32) -> u64
     requires { IsCacheRow sets ways clock places.old }
     ensures row { IsPlaceRow sets ways places.new }
@@ -45,6 +46,7 @@ fn free_time(places: &mut Row, clock: u64, sets: u32, ways: u32) -> u64
 }
 
 /// A time behind those of all places, and the clock behind it.
+#[inline(always)]
 pub(crate) fn tick(places: &mut Row, clock: &mut u64, sets: u32, ways: u32) -> u64
     requires { IsCacheRow sets ways clock.old places.old }
     ensures row { IsPlaceRow sets ways places.new }
