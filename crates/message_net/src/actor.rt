@@ -30,6 +30,7 @@ pub(crate) fn is_same(a: MailId, b: MailId) -> bool
 impl Actor {
     /// The index of the actor among all of a machine with this many cores and banks: cores come first, then banks, then the
     /// keeper.
+    #[inline(always)]
     pub fn index(&self, cores: u32, banks: u32) -> usize
         ensures { result ≡ actor_index cores banks self.now }
     {

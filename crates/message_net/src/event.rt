@@ -56,6 +56,7 @@ pub enum EventKind {
 
 impl EventKind {
     /// The index of the kind among the seventeen.
+    #[inline(always)]
     pub fn index(self) -> usize
         ensures value { result ≡ kind_index self }
         ensures within { result < 17 }

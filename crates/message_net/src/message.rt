@@ -94,7 +94,8 @@ pub struct Outgoing {
 }
 
 impl Message {
-    /// The kind of event in which the message is handled: the one with the message's name.
+    /// The kind of event in which the message is handled: the one with its name.
+    #[inline(always)]
     pub fn kind(&self) -> EventKind
         ensures { result ≡ kind_of self.now }
     {
@@ -119,6 +120,7 @@ impl Message {
 
 impl Outgoing {
     /// A message to a core.
+    #[inline(always)]
     pub fn to_core(core: CoreId, message: Message) -> Outgoing
         ensures { Some result ≡ to_core core message }
     {
@@ -128,7 +130,8 @@ impl Outgoing {
         }
     }
 
-    /// A message to the home of the word or lock with this number, in a machine with `banks` banks.
+    /// A message to the home of the word or lock with this number, in a machine with so many banks.
+    #[inline(always)]
     pub fn to_home(banks: u32, number: u32, message: Message) -> Outgoing
         requires { 0 < banks }
         ensures { Some result ≡ to_home banks number message }
@@ -149,7 +152,8 @@ impl Outgoing {
         }
     }
 
-    /// The mail that the message becomes: `from` is its sender, and `number` that sender's number for it.
+    /// The mail that the message becomes, with its sender and that sender's number for it.
+    #[inline(always)]
     pub fn mail(&self, from: Actor, number: u32) -> Mail
         ensures { result ≡ mail_of from number self.now }
     {

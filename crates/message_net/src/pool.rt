@@ -82,7 +82,8 @@ fn free_place(places: &mut Option<Places>, mails: &[Mail], place: u32)
     }
 }
 
-/// Removes the mail at this index. The last mail moves to its index.
+/// Takes the mail at this place out of the row; the last mail moves into the free place.
+#[inline(always)]
 fn take_out(row: &mut Vec<Mail>, place: usize) -> Mail
     requires { place < length row.old.items }
     ensures value { slice_get row.old.items place ≡ Some result }
@@ -154,7 +155,8 @@ impl Pool {
         }
     }
 
-    /// Appends a mail, in room that was reserved; takes no memory.
+    /// Adds a mail at the end, in the room that was made for it; takes no memory.
+    #[inline(always)]
     pub fn post_reserved(&mut self, mail: Mail)
         requires new { count_of mail.id self.old.mails ≡ 0 }
         requires room { length self.old.mails < 4294967295 }
@@ -182,8 +184,9 @@ impl Pool {
         Some(self.take_at(place))
     }
 
-    /// Removes the mail at this index, and gives it. The last mail moves to its index, and its room is spare. It searches
-    /// nothing, and takes no memory.
+    /// Takes the mail at this place out; the last mail moves into the free place, and the room of the mail is spare. It looks
+    /// for nothing, and takes no memory.
+    #[inline(always)]
     pub fn take_at(&mut self, place: u32) -> Mail
         requires { place < length self.old.mails }
         ensures value { slice_get self.old.mails place ≡ Some result }
@@ -211,6 +214,7 @@ impl Pool {
     }
 
     /// How many mails there are.
+    #[inline(always)]
     pub fn count(&self) -> u32
         ensures count { result ≡ length self.now.mails }
         ensures distinct { AreDistinct self.now.mails }
@@ -218,7 +222,8 @@ impl Pool {
         self.row.len() as u32
     }
 
-    /// The mail at this index.
+    /// The mail at this place.
+    #[inline(always)]
     pub fn at(&self, place: u32) -> Mail
         requires { place < length self.now.mails }
         ensures { slice_get self.now.mails place ≡ Some result }

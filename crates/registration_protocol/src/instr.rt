@@ -25,27 +25,8 @@ use rv_core::{End, Need, TaskState};
 use word_cache::{Entry, Probe, WordCache};
 use write_signature::Signature;
 
-/// The result of an instruction that sends nothing and reads nothing.
-fn silence() -> Step
-    ensures { result ≡ record { sent = None; seen = None } }
-{
-    Step {
-        sent: None,
-        seen: None,
-    }
-}
-
-/// The result of an instruction that sends this.
-fn sending(sent: Outgoing) -> Step
-    ensures { result ≡ record { sent = Some sent; seen = None } }
-{
-    Step {
-        sent: Some(sent),
-        seen: None,
-    }
-}
-
-/// Whether the task may use the word without a lock.
+/// Whether the task may use the word whatever locks it holds.
+#[inline(always)]
 fn is_plain(task: &TaskDecl, word: WordId) -> bool
     ensures { result ≡ uses_plainly task.now word.0 }
 {
@@ -53,6 +34,7 @@ fn is_plain(task: &TaskDecl, word: WordId) -> bool
 }
 
 /// The next instruction retires: it needs nothing, or is a store, an acquire or a release.
+#[inline(always)]
 fn advance(task: &mut Option<TaskState>, context: &Context<'_>, declared: &TaskDecl, need: &Need)
     requires look { IfSome task.old (IsNeed (setting context.now) declared.now need.now) }
     requires kind { IsAdvance need.now }
@@ -63,7 +45,8 @@ fn advance(task: &mut Option<TaskState>, context: &Context<'_>, declared: &TaskD
     }
 }
 
-/// The next instruction, a load of a word with this value, retires.
+/// The next instruction retires, a load of a word of this value.
+#[inline(always)]
 fn load(
     task: &mut Option<TaskState>,
     context: &Context<'_>,
@@ -81,6 +64,7 @@ fn load(
 }
 
 /// The task ends.
+#[inline(always)]
 fn stop(task: &mut Option<TaskState>, cause: End)
     requires { IfSome task.old (λ t. (t.end ≡ None) × (t.retired < 4294967295)) }
     ensures { task.new ≡ option_map (stopped cause) task.old }
@@ -91,6 +75,7 @@ fn stop(task: &mut Option<TaskState>, cause: End)
 }
 
 /// Notes a store of the task to the word in the signatures of the locks.
+#[inline(always)]
 fn sign(
     signatures: &mut Sequence<Signature>,
     task: &Option<TaskState>,
@@ -114,7 +99,8 @@ struct Target {
     old: u32,
 }
 
-/// Gives the word this entry, at the place that the probe gave.
+/// Gives the word this entry, at the place that the probe told.
+#[inline(always)]
 fn enter(cache: &mut WordCache, word: WordId, probe: Probe, entry: Entry)
     requires probe { IsProbe probe (lookup word.0 cache.old.pairs) (has_room cache.old word.0) }
     requires room { (is_some (lookup word.0 cache.old.pairs) || has_room cache.old word.0) ≡ true }
@@ -129,17 +115,19 @@ fn enter(cache: &mut WordCache, word: WordId, probe: Probe, entry: Entry)
 
 impl Node {
     /// The node asks a word's home for its value.
-    fn miss(&mut self, context: &Context<'_>, word: WordId) -> Step
+    #[inline(always)]
+    fn miss(&mut self, context: &Context<'_>, word: WordId) -> Outgoing
         requires { 0 < (setting context.now).shape.banks }
         ensures node { self.new ≡ (misses (setting context.now) self.old word).0 }
-        ensures step { result ≡ (misses (setting context.now) self.old word).1 }
+        ensures step { record { sent = Some result; seen = None } ≡ (misses (setting context.now) self.old word).1 }
     {
         self.wait = NodeWait::Reading(word);
         let reader = self.core;
-        sending(send_home(context, word.0, Message::ReadReq { word, reader }))
+        send_home(context, word.0, Message::ReadReq { word, reader })
     }
 
-    /// The task loads a word with this value.
+    /// The task loads a word of this value.
+    #[inline(always)]
     fn see(
         &mut self,
         context: &Context<'_>,
@@ -147,36 +135,38 @@ impl Node {
         need: &Need,
         word: WordId,
         value: u32,
-    ) -> Step
+    ) -> LoadSeen
         requires look { IfSome self.old.task (IsNeed (setting context.now) declared.now need.now) }
         requires kind { IsLoad need.now }
         ensures node { self.new ≡ record self.old { task = option_map (loaded_of (setting context.now).program value) self.old.task; waiting = WaitsForNothing } }
-        ensures step { result ≡ record { sent = None; seen = Some (record { word = word; value = value }) } }
+        ensures seen { result ≡ record { word = word; value = value } }
     {
         load(&mut self.task, context, declared, need, value);
         self.wait = NodeWait::None;
-        Step {
-            sent: None,
-            seen: Some(LoadSeen { word, value }),
-        }
+        LoadSeen { word, value }
     }
 
     /// A load of the word.
+    #[inline(always)]
     fn load(
         &mut self,
         context: &Context<'_>,
         declared: &TaskDecl,
         need: &Need,
         word: WordId,
-    ) -> Step
+        sent: &mut Option<Outgoing>,
+    ) -> Option<LoadSeen>
+        requires none { sent.old ≡ None }
         requires banks { 0 < (setting context.now).shape.banks }
         requires look { IfSome self.old.task (IsNeed (setting context.now) declared.now need.now) }
         requires kind { IsLoad need.now }
         ensures node { (t : TaskState) → self.old.task ≡ Some t → self.new ≡ (load_row (setting context.now) self.old declared.now t word (entry_of self.old word.0)).0 }
-        ensures step { (t : TaskState) → self.old.task ≡ Some t → result ≡ (load_row (setting context.now) self.old declared.now t word (entry_of self.old word.0)).1 }
+        ensures step { (t : TaskState) → self.old.task ≡ Some t
+            → record { sent = sent.new; seen = result } ≡ (load_row (setting context.now) self.old declared.now t word (entry_of self.old word.0)).1 }
     {
         let Probe::Hit { place, entry } = self.cache.probe(word) else {
-            return self.miss(context, word);
+            *sent = Some(self.miss(context, word));
+            return None;
         };
         match entry {
             Entry::Valid { value, marked } => {
@@ -185,17 +175,18 @@ impl Node {
                     marked: marked || is_plain(declared, word),
                 };
                 self.cache.set_at(Some(place), word, entry);
-                self.see(context, declared, need, word, value)
+                Some(self.see(context, declared, need, word, value))
             }
             Entry::Registered { value, .. } => {
                 self.cache.touch_at(Some(place), word);
-                self.see(context, declared, need, word, value)
+                Some(self.see(context, declared, need, word, value))
             }
-            Entry::Leaving(_) => silence(),
+            Entry::Leaving(_) => None,
         }
     }
 
-    /// The word after the task's store, where `old` is its value before.
+    /// The word after the task's store, where the word's value was `old`.
+    #[inline(always)]
     fn merged(&self, context: &Context<'_>, declared: &TaskDecl, need: &Need, old: u32) -> u32
         requires look { IfSome self.now.task (IsNeed (setting context.now) declared.now need.now) }
         requires kind { IsStore need.now }
@@ -207,7 +198,8 @@ impl Node {
         }
     }
 
-    /// A store to the word retires. The core is the word's registrant, or asks to be it.
+    /// A store to the word retires. The core is the word's registrant then, or is to be it.
+    #[inline(always)]
     fn write(
         &mut self,
         context: &Context<'_>,
@@ -234,13 +226,14 @@ impl Node {
     }
 
     /// A store to the word retires, and asks the word's home to make the core its registrant.
+    #[inline(always)]
     fn register(
         &mut self,
         context: &Context<'_>,
         declared: &TaskDecl,
         need: &Need,
         target: Target,
-    ) -> Step
+    ) -> Outgoing
         requires banks { 0 < (setting context.now).shape.banks }
         requires look { IfSome self.old.task (IsNeed (setting context.now) declared.now need.now) }
         requires kind { IsStore need.now }
@@ -250,15 +243,16 @@ impl Node {
         ensures node { (t : TaskState) → self.old.task ≡ Some t
             → self.new ≡ (registers_word (setting context.now) self.old declared.now t target.word (merged_of (setting context.now).program target.old t)).0 }
         ensures step { (t : TaskState) → self.old.task ≡ Some t
-            → result ≡ (registers_word (setting context.now) self.old declared.now t target.word (merged_of (setting context.now).program target.old t)).1 }
+            → record { sent = Some result; seen = None } ≡ (registers_word (setting context.now) self.old declared.now t target.word (merged_of (setting context.now).program target.old t)).1 }
     {
         let word = target.word;
         let core = self.core;
         self.write(context, declared, need, target, true);
-        sending(send_home(context, word.0, Message::RegReq { word, core }))
+        send_home(context, word.0, Message::RegReq { word, core })
     }
 
     /// A store to the word, which has no entry; `whole` where it gives all four bytes.
+    #[inline(always)]
     fn store_new(
         &mut self,
         context: &Context<'_>,
@@ -267,7 +261,7 @@ impl Node {
         word: WordId,
         probe: Probe,
         whole: bool,
-    ) -> Step
+    ) -> Outgoing
         requires banks { 0 < (setting context.now).shape.banks }
         requires look { IfSome self.old.task (IsNeed (setting context.now) declared.now need.now) }
         requires kind { IsStore need.now }
@@ -275,7 +269,8 @@ impl Node {
         requires probe { IsProbe probe (entry_of self.old word.0) (has_room self.old.cache word.0) }
         requires room { has_room self.old.cache word.0 ≡ true }
         ensures node { (t : TaskState) → self.old.task ≡ Some t → self.new ≡ (store_row (setting context.now) self.old declared.now t word whole None).0 }
-        ensures step { (t : TaskState) → self.old.task ≡ Some t → result ≡ (store_row (setting context.now) self.old declared.now t word whole None).1 }
+        ensures step { (t : TaskState) → self.old.task ≡ Some t
+            → record { sent = Some result; seen = None } ≡ (store_row (setting context.now) self.old declared.now t word whole None).1 }
     {
         if !whole {
             return self.miss(context, word);
@@ -290,6 +285,7 @@ impl Node {
     }
 
     /// A store to the word; `whole` where it gives all four bytes.
+    #[inline(always)]
     fn store(
         &mut self,
         context: &Context<'_>,
@@ -297,18 +293,22 @@ impl Node {
         need: &Need,
         word: WordId,
         whole: bool,
-    ) -> Step
+        sent: &mut Option<Outgoing>,
+    )
+        requires none { sent.old ≡ None }
         requires banks { 0 < (setting context.now).shape.banks }
         requires look { IfSome self.old.task (IsNeed (setting context.now) declared.now need.now) }
         requires kind { IsStore need.now }
         requires locks { length self.old.signatures ≤ 32 }
         requires access { may_access self.old word.0 (entry_of self.old word.0) ≡ true }
         ensures node { (t : TaskState) → self.old.task ≡ Some t → self.new ≡ (store_row (setting context.now) self.old declared.now t word whole (entry_of self.old word.0)).0 }
-        ensures step { (t : TaskState) → self.old.task ≡ Some t → result ≡ (store_row (setting context.now) self.old declared.now t word whole (entry_of self.old word.0)).1 }
+        ensures step { (t : TaskState) → self.old.task ≡ Some t
+            → record { sent = sent.new; seen = None } ≡ (store_row (setting context.now) self.old declared.now t word whole (entry_of self.old word.0)).1 }
     {
         let probe = self.cache.probe(word);
         let Probe::Hit { entry, .. } = probe else {
-            return self.store_new(context, declared, need, word, probe, whole);
+            *sent = Some(self.store_new(context, declared, need, word, probe, whole));
+            return;
         };
         match entry {
             Entry::Valid { value, .. } => {
@@ -317,7 +317,7 @@ impl Node {
                     probe,
                     old: value,
                 };
-                self.register(context, declared, need, target)
+                *sent = Some(self.register(context, declared, need, target));
             }
             Entry::Registered { value, pending } => {
                 let target = Target {
@@ -326,21 +326,20 @@ impl Node {
                     old: value,
                 };
                 self.write(context, declared, need, target, pending);
-                silence()
             }
-            Entry::Leaving(_) => silence(),
+            Entry::Leaving(_) => {}
         }
     }
 
     /// The node asks the lock's home for the lock.
-    fn acquire(&mut self, context: &Context<'_>, lock: LockId) -> Step
+    fn acquire(&mut self, context: &Context<'_>, lock: LockId) -> Outgoing
         requires { 0 < (setting context.now).shape.banks }
         ensures node { self.new ≡ record self.old { waiting = Locking lock } }
-        ensures step { result ≡ record { sent = to_home (setting context.now).shape.banks lock.0 (AcquireOf lock (me self.old)); seen = None } }
+        ensures sent { Some result ≡ to_home (setting context.now).shape.banks lock.0 (AcquireOf lock (me self.old)) }
     {
         self.wait = NodeWait::Locking(lock);
         let core = self.core;
-        sending(send_home(context, lock.0, Message::Acquire { lock, core }))
+        send_home(context, lock.0, Message::Acquire { lock, core })
     }
 
     /// The signature that the node keeps for a lock; for a lock that the program doesn't have, the empty one of its phase.
@@ -355,13 +354,13 @@ impl Node {
     }
 
     /// The node gives the lock back to its home, with the words that were written under it.
-    fn release(&self, context: &Context<'_>, lock: LockId) -> Step
+    fn release(&self, context: &Context<'_>, lock: LockId) -> Outgoing
         requires { 0 < (setting context.now).shape.banks }
-        ensures { result ≡ record { sent = to_home (setting context.now).shape.banks lock.0 (ReleaseOf lock (me self.now) (signature_of self.now lock.0)); seen = None } }
+        ensures { Some result ≡ to_home (setting context.now).shape.banks lock.0 (ReleaseOf lock (me self.now) (signature_of self.now lock.0)) }
     {
         let core = self.core;
         let signature = self.signature(lock);
-        sending(send_home(
+        send_home(
             context,
             lock.0,
             Message::Release {
@@ -369,63 +368,97 @@ impl Node {
                 core,
                 signature,
             },
-        ))
+        )
     }
 
-    /// The instruction of this look.
-    fn perform(&mut self, context: &Context<'_>, declared: &TaskDecl, need: &Need) -> Step
+    /// The instruction of this look. What it sends is put into the caller's place, which has nothing: so the many that send nothing
+    /// move no message.
+    fn perform(
+        &mut self,
+        context: &Context<'_>,
+        declared: &TaskDecl,
+        need: &Need,
+        sent: &mut Option<Outgoing>,
+    ) -> Option<LoadSeen>
+        requires none { sent.old ≡ None }
         requires banks { 0 < (setting context.now).shape.banks }
         requires most { (setting context.now).fuel ≤ 32768 }
         requires look { IfSome self.old.task (IsNeed (setting context.now) declared.now need.now) }
         requires locks { length self.old.signatures ≤ 32 }
         requires lets { lets self.old (Some need.now) ≡ true }
         ensures node { (t : TaskState) → self.old.task ≡ Some t → self.new ≡ (instr_row (setting context.now) self.old declared.now t need.now).0 }
-        ensures step { (t : TaskState) → self.old.task ≡ Some t → result ≡ (instr_row (setting context.now) self.old declared.now t need.now).1 }
+        ensures step { (t : TaskState) → self.old.task ≡ Some t
+            → record { sent = sent.new; seen = result } ≡ (instr_row (setting context.now) self.old declared.now t need.now).1 }
     {
         match *need {
             Need::Local => {
                 advance(&mut self.task, context, declared, need);
-                silence()
+                None
             }
             Need::End { cause } => {
                 stop(&mut self.task, cause);
-                silence()
+                None
             }
-            Need::Load { word } => self.load(context, declared, need, word),
-            Need::Store { word, whole } => self.store(context, declared, need, word, whole),
-            Need::Acquire { lock } => self.acquire(context, lock),
+            Need::Load { word } => self.load(context, declared, need, word, sent),
+            Need::Store { word, whole } => {
+                self.store(context, declared, need, word, whole, sent);
+                None
+            }
+            Need::Acquire { lock } => {
+                *sent = Some(self.acquire(context, lock));
+                None
+            }
             Need::Release { lock } => {
                 advance(&mut self.task, context, declared, need);
-                self.release(context, lock)
+                *sent = Some(self.release(context, lock));
+                None
             }
         }
     }
 
     /// The node's next instruction, by one look at it.
     #[tactic(auto, unfolding(crate::specs::OwnEvents::instructed))]
-    fn next(&mut self, context: &Context<'_>) -> Step
+    #[inline(always)]
+    fn next(&mut self, context: &Context<'_>, sent: &mut Option<Outgoing>) -> Option<LoadSeen>
+        requires none { sent.old ≡ None }
         requires context { IsContext (setting context.now) }
         requires fits { Fits (setting context.now) self.old }
         requires may { may_instr (setting context.now) self.old ≡ true }
         ensures node { self.new ≡ (instructed (setting context.now) self.old).0 }
-        ensures step { result ≡ (instructed (setting context.now) self.old).1 }
+        ensures step { record { sent = sent.new; seen = result } ≡ (instructed (setting context.now) self.old).1 }
     {
-        let Some(task) = &self.task else {
-            return silence();
-        };
-        let Some(declared) = declaration(context.decoded.program(), self.phase, self.core) else {
-            return silence();
-        };
+        let task = self.task.as_ref()?;
+        let declared = declaration(context.decoded.program(), self.phase, self.core)?;
         if task.end.is_some() {
-            return silence();
+            return None;
         }
         let need = context.decoded.need(task, declared, context.fuel);
-        self.perform(context, declared, &need)
+        self.perform(context, declared, &need, sent)
     }
 
-    /// The node's next instruction, which must be allowed (`may_instr`). It retires, asks for what it lacks, or ends the task.
-    /// A load of a word that the task uses plainly marks the word's copy. A store puts its word into the signatures of the held
-    /// locks that guard it. Takes no memory.
+    /// The node's next instruction, as `instr` makes it. What it sends is put into the caller's place, and the load that it completed
+    /// is given back. Takes no memory.
+    #[inline(always)]
+    pub fn instr_into(
+        &mut self,
+        context: &Context<'_>,
+        sent: &mut Option<Outgoing>,
+    ) -> Option<LoadSeen>
+        requires context { IsContext (setting context.now) }
+        requires fits { Fits (setting context.now) self.old }
+        requires may { may_instr (setting context.now) self.old ≡ true }
+        ensures node { self.new ≡ (instructed (setting context.now) self.old).0 }
+        ensures step { record { sent = sent.new; seen = result } ≡ (instructed (setting context.now) self.old).1 }
+        ensures fits { Fits (setting context.now) self.new }
+    {
+        *sent = None;
+        self.next(context, sent)
+    }
+
+    /// The node's next instruction, which may go on: it retires, or asks for what it lacks, or ends the task. A load of a word
+    /// that the task uses plainly marks the word's copy. A store enters its word in the signature of each held lock that
+    /// guards it. Takes no memory.
+    #[inline(always)]
     pub fn instr(&mut self, context: &Context<'_>) -> Step
         requires context { IsContext (setting context.now) }
         requires fits { Fits (setting context.now) self.old }
@@ -434,6 +467,8 @@ impl Node {
         ensures step { result ≡ (instructed (setting context.now) self.old).1 }
         ensures fits { Fits (setting context.now) self.new }
     {
-        self.next(context)
+        let mut sent = None;
+        let seen = self.instr_into(context, &mut sent);
+        Step { sent, seen }
     }
 }

@@ -64,7 +64,8 @@ impl Model for Node {
     ghost view = { λ n. record { core = n.core.0; phase = n.phase.0; task = n.task; cache = n.cache; waiting = n.wait; signatures = n.signatures; arrived = n.arrived; halted = n.halted } };
 }
 
-/// The result of a message that sends nothing and grants nothing.
+/// What a message brings about that sends nothing and grants nothing.
+#[inline(always)]
 pub(crate) fn nothing() -> Received
     ensures { result ≡ record { sent = None; granted = None } }
 {
@@ -74,7 +75,8 @@ pub(crate) fn nothing() -> Received
     }
 }
 
-/// The result of a message on which the node sends a message to a core.
+/// What a message brings about that makes the node send a message to a core.
+#[inline(always)]
 fn send(core: CoreId, message: Message) -> Received
     ensures { result ≡ record { sent = to_core core message; granted = None } }
 {
@@ -85,6 +87,7 @@ fn send(core: CoreId, message: Message) -> Received
 }
 
 /// A message to the home of the word or lock of this number.
+#[inline(always)]
 pub(crate) fn send_home(context: &Context<'_>, number: u32, message: Message) -> Outgoing
     requires { 0 < (setting context.now).shape.banks }
     ensures { Some result ≡ to_home (setting context.now).shape.banks number message }
@@ -125,6 +128,7 @@ impl Node {
     }
 
     /// Whether no entry is pending.
+    #[inline(always)]
     pub(crate) fn is_settled(&self) -> bool
         ensures { result ≡ is_settled self.now }
     {
@@ -132,6 +136,7 @@ impl Node {
     }
 
     /// Whether the node has a task that hasn't ended.
+    #[inline(always)]
     pub(crate) fn is_running(&self) -> bool
         ensures { result ≡ is_running self.now.task }
     {
@@ -141,8 +146,9 @@ impl Node {
         }
     }
 
-    /// Whether the node may arrive at the barrier: it isn't halted and hasn't arrived, it has no running task, and no entry is
-    /// pending. Takes no memory.
+    /// Whether the node may arrive at the barrier: it is neither halted nor has it arrived, no task of it goes on, and no
+    /// entry is pending. Takes no memory.
+    #[inline(always)]
     pub fn may_arrive(&self) -> bool
         ensures { result ≡ may_arrive self.now }
     {
@@ -162,7 +168,8 @@ impl Node {
         Some(context.decoded.need(task, declared, context.fuel))
     }
 
-    /// Whether the node's flags and its wait allow an instruction.
+    /// Whether the node's flags and its wait let an instruction go on.
+    #[inline(always)]
     pub(crate) fn is_ready(&self) -> bool
         ensures { result ≡ (is_active self.now && is_ready self.now.waiting) }
     {
@@ -194,7 +201,8 @@ impl Node {
         Outgoing::to_keeper(Message::Arrived { core, bad })
     }
 
-    /// The value of a word comes for which the node waits. It becomes a copy if the word has no entry and its set has room.
+    /// The value of a word that the node waits for comes: it becomes a copy, where the word has no entry and its set has room.
+    #[inline(always)]
     fn fill(&mut self, word: WordId, value: u32)
         ensures { self.new ≡ (fills self.old word value (entry_of self.old word.0)).0 }
     {
@@ -213,6 +221,7 @@ impl Node {
     }
 
     /// The value of a word comes.
+    #[inline(always)]
     pub(crate) fn data(&mut self, word: WordId, value: u32) -> Received
         ensures node { self.new ≡ (data_reply_row self.old word value self.old.waiting).0 }
         ensures received { result ≡ (data_reply_row self.old word value self.old.waiting).1 }
@@ -223,8 +232,9 @@ impl Node {
         nothing()
     }
 
-    /// A read is forwarded to the node: it sends the value to the reader if it has the word registered or leaving, otherwise
-    /// it sends the read back to the word's home.
+    /// A read is forwarded to the node: the value goes to the reader where the node has it for sure, and else the read goes
+    /// back to the word's home.
+    #[inline(always)]
     pub(crate) fn read(&self, context: &Context<'_>, word: WordId, reader: CoreId) -> Received
         requires { 0 < (setting context.now).shape.banks }
         ensures { result ≡ (read_fwd_row (setting context.now) self.now word reader (entry_of self.now word.0)).1 }
@@ -269,6 +279,7 @@ impl Node {
     }
 
     /// The run is over.
+    #[inline(always)]
     pub(crate) fn halt(&mut self) -> Received
         ensures node { self.new ≡ (halt_row self.old).0 }
         ensures received { result ≡ (halt_row self.old).1 }
@@ -279,7 +290,8 @@ impl Node {
         nothing()
     }
 
-    /// The home of a word, or its earlier registrant, says that the core is its registrant.
+    /// The home of a word says that the core is its registrant.
+    #[inline(always)]
     pub(crate) fn acknowledged(&mut self, word: WordId) -> Received
         ensures node { self.new ≡ (reg_ack_row self.old word (entry_of self.old word.0)).0 }
         ensures received { result ≡ (reg_ack_row self.old word (entry_of self.old word.0)).1 }
@@ -300,6 +312,7 @@ impl Node {
     }
 
     /// Another core is the registrant of a word now.
+    #[inline(always)]
     pub(crate) fn forwarded(&mut self, word: WordId, core: CoreId) -> Received
         ensures node { self.new ≡ (reg_fwd_row self.old word core (entry_of self.old word.0)).0 }
         ensures received { result ≡ (reg_fwd_row self.old word core (entry_of self.old word.0)).1 }
@@ -312,7 +325,8 @@ impl Node {
         send(core, Message::RegAck { word })
     }
 
-    /// The home of a word acknowledges the write-back.
+    /// The home of a word has had it back.
+    #[inline(always)]
     pub(crate) fn given_back(&mut self, word: WordId) -> Received
         ensures node { self.new ≡ (wb_ack_row self.old word (entry_of self.old word.0)).0 }
         ensures received { result ≡ (wb_ack_row self.old word (entry_of self.old word.0)).1 }

@@ -20,14 +20,16 @@ pub(crate) enum Outlook {
 }
 
 impl Outlook {
-    /// Whether the instruction may come.
+    /// Whether the instruction may go on.
+    #[inline(always)]
     pub(crate) fn is_clear(&self) -> bool
         ensures { result ≡ is_clear self.now }
     {
         matches!(self, Outlook::Goes)
     }
 
-    /// The word that lacks a place in the cache, if there is one.
+    /// The word that lacks a place, if one does.
+    #[inline(always)]
     pub(crate) fn lacked(&self) -> Option<WordId>
         ensures { result ≡ lacked self.now }
     {
@@ -40,6 +42,7 @@ impl Outlook {
 
 impl Node {
     /// The outlook for an access of the word, by one look at its set.
+    #[inline(always)]
     fn access(&self, word: WordId) -> Outlook
         ensures goes { is_clear result ≡ may_access self.now word.0 (entry_of self.now word.0) }
         ensures lacked { lacked result ≡ crowded self.now word }
@@ -55,6 +58,7 @@ impl Node {
     }
 
     /// The outlook for an instruction with this need.
+    #[inline(always)]
     pub(crate) fn outlook(&self, need: Option<Need>) -> Outlook
         ensures goes { is_clear result ≡ lets self.now need }
         ensures lacked { lacked result ≡ wanted_by self.now need }

@@ -27,6 +27,7 @@ fn shown(end: Option<End>, wait: NodeWait) -> Option<EndShown>
 
 impl Node {
     /// Whether the word's entry may be evicted.
+    #[inline(always)]
     fn may_go(&self, word: WordId) -> bool
         ensures { result ≡ may_go (entry_of self.now word.0) }
     {
@@ -37,7 +38,8 @@ impl Node {
         }
     }
 
-    /// Whether the node's flags and its wait allow it to evict a word.
+    /// Whether the node's flags and its wait let it evict a word.
+    #[inline(always)]
     fn is_idle(&self) -> bool
         ensures { result ≡ (is_active self.now && waits_for_nothing self.now.waiting) }
     {
@@ -83,6 +85,7 @@ impl Node {
     }
 
     /// The cache's victim for the wanted word, if there is one.
+    #[inline(always)]
     fn victim(&self, wanted: Option<WordId>) -> Option<WordId>
         ensures value { result ≡ victim_for self.now wanted }
         ensures evictable { IfSome result (λ w. may_go (entry_of self.now w.0) ≡ true) }
@@ -93,8 +96,9 @@ impl Node {
         }
     }
 
-    /// The eviction that the node makes next, if its next instruction lacks a place for the wanted word. The cache's victim is
-    /// in that word's set and may be evicted, so neither is tested. The context is there only for the clauses.
+    /// The eviction that the node makes next, whose next instruction lacks a place for the wanted word, if there is one. The
+    /// cache's victim is of that word's set, and may go, so neither is tested. The context is there for the clauses alone.
+    #[inline(always)]
     fn eviction(&self, context: &Context<'_>, wanted: Option<WordId>) -> Option<Event>
         requires wanted { wanted ≡ wanted_by self.now (need_now (setting context.now) self.now) }
         ensures value { result ≡ eviction (setting context.now) self.now }
@@ -108,7 +112,8 @@ impl Node {
         }
     }
 
-    /// The node's arrival, if it may arrive.
+    /// The node's arrival, where it may arrive.
+    #[inline(always)]
     fn arrival(&self) -> Option<Event>
         ensures value { result ≡ arrival self.now }
         ensures none { (result ≡ None) ↔ (may_arrive self.now ≡ false) }
@@ -120,8 +125,9 @@ impl Node {
         }
     }
 
-    /// The node's next own event: its instruction if that may come, otherwise the eviction of the cache's victim for the word
-    /// that lacks a place, otherwise its arrival at the barrier. Takes no memory.
+    /// What the node does next by itself: its instruction where that may go on, else the eviction of the cache's victim for
+    /// the word that lacks a place, else its arrival at the barrier. Takes no memory.
+    #[inline(always)]
     pub fn own(&self, context: &Context<'_>) -> Option<Event>
         requires context { IsContext (setting context.now) }
         requires fits { Fits (setting context.now) self.now }

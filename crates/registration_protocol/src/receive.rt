@@ -131,6 +131,7 @@ impl Node {
 
     /// What a message makes the node do, by its kind.
     #[tactic(auto, unfolding(crate::specs::Messages::node_gets))]
+    #[inline(always)]
     fn handle(&mut self, context: &Context<'_>, message: Message) -> Received
         requires context { IsContext (setting context.now) }
         requires fits { Fits (setting context.now) self.old }
@@ -153,7 +154,8 @@ impl Node {
     /// What a node does on a message: the value of a word, an acknowledgement, a forwarded registration or read, the grant of a
     /// lock, or the keeper's Go and Halt.
     ///
-    /// A message that has no row in the table `node_gets` changes nothing and sends nothing. Takes no memory.
+    /// A message that comes where none of these says anything changes nothing and sends nothing. Takes no memory.
+    #[inline(always)]
     pub fn receive(&mut self, context: &Context<'_>, message: Message) -> Received
         requires context { IsContext (setting context.now) }
         requires fits { Fits (setting context.now) self.old }

@@ -33,8 +33,9 @@ fn find_in(tasks: &[TaskDecl], core: CoreId) -> Option<&TaskDecl>
     None
 }
 
-/// The task that the program declares for the core in the phase, if it declares one. It is looked for first at the index of the
-/// core's number, where it stands if every core below has a task.
+/// The task that the program declares for the core in the phase, if it does. Where each core below it has a task, it stands
+/// at the place of the core's number.
+#[inline(always)]
 pub(crate) fn declaration(program: &Program, phase: PhaseId, core: CoreId) -> Option<&TaskDecl>
     ensures value { option_copied result ≡ declared program.now phase.0 core.0 }
     ensures locks { length program.now.locks ≤ 32 }

@@ -77,7 +77,8 @@ fn note_at(
     }
 }
 
-/// Puts the word of a store into the signature of each lock that the task holds and that guards the word for its stores.
+/// Notes a store to the word in the signature of each lock that the task holds and that guards the word for its stores.
+#[inline(always)]
 pub(crate) fn note(
     signatures: &mut Sequence<Signature>,
     task: &TaskDecl,

@@ -44,6 +44,7 @@ impl Model for Bank {
 }
 
 /// A message to a core.
+#[inline(always)]
 fn send(core: CoreId, message: Message) -> Option<Outgoing>
     ensures { result ≡ to_core core message }
 {
@@ -157,7 +158,8 @@ impl Bank {
         self.bank
     }
 
-    /// What the bank holds for a word; None exactly if the bank isn't the word's home. Takes no memory.
+    /// What the bank holds for a word; None exactly where the word isn't one of this bank's. Takes no memory.
+    #[inline(always)]
     pub fn word(&self, word: WordId) -> Option<BankWord>
         ensures { result ≡ bank_word self.now word.0 }
     {
@@ -181,7 +183,8 @@ impl Bank {
         }
     }
 
-    /// Changes what the bank holds for one of its words.
+    /// Gives one of the bank's words another content.
+    #[inline(always)]
     fn put(&mut self, word: WordId, content: BankWord)
         requires { word.0 / self.old.banks < length self.old.words }
         ensures { self.new ≡ with_word self.old word.0 content }
@@ -189,7 +192,8 @@ impl Bank {
         self.words[quotient(word.0, self.banks) as usize] = content;
     }
 
-    /// A core asks for the value of a word. The value is sent to it, or the read is forwarded to the registrant.
+    /// A core asks for the value of a word: it gets it, or the registrant is told to send it.
+    #[inline(always)]
     fn read(&self, word: WordId, reader: CoreId) -> Option<Outgoing>
         ensures { result ≡ (reads self.now word reader (bank_word self.now word.0)).1 }
     {
@@ -199,7 +203,8 @@ impl Bank {
         }
     }
 
-    /// A core asks to be the registrant of a word, and becomes it. An earlier registrant is told.
+    /// A core asks to be the registrant of a word, and becomes it; an earlier registrant is told.
+    #[inline(always)]
     fn register(&mut self, word: WordId, core: CoreId) -> Option<Outgoing>
         ensures bank { self.new ≡ (registers self.old word core (bank_word self.old word.0)).0 }
         ensures sent { result ≡ (registers self.old word core (bank_word self.old word.0)).1 }
@@ -266,6 +271,7 @@ impl Bank {
     /// Nothing happens if the word, the lock or the core isn't this bank's or this machine's, and for all other kinds of
     /// message. Takes no memory.
     #[tactic(auto, unfolding(crate::specs::Bank::bank_gets))]
+    #[inline(always)]
     pub fn handle(&mut self, message: Message) -> Option<Outgoing>
         ensures bank { self.new ≡ (bank_gets self.old message).0 }
         ensures sent { result ≡ (bank_gets self.old message).1 }

@@ -5,6 +5,7 @@ use dn_base::WordId;
 use region_table::{TaskDecl, WordSet};
 
 /// Whether a lock is among those that are held.
+#[inline(always)]
 pub(crate) fn is_held(held: u32, lock: u32) -> bool
     requires { lock < 32 }
     ensures { result ≡ is_held held lock }
@@ -36,6 +37,7 @@ fn is_under(sets: &[WordSet], held: u32, word: WordId) -> bool
 }
 
 /// Whether the task may load the word while it holds these locks.
+#[inline(always)]
 pub(crate) fn is_readable(task: &TaskDecl, held: u32, word: WordId) -> bool
     ensures { result ≡ may_load task.now held word.0 }
 {
@@ -47,6 +49,7 @@ pub(crate) fn is_readable(task: &TaskDecl, held: u32, word: WordId) -> bool
 }
 
 /// Whether the task may store the word while it holds these locks.
+#[inline(always)]
 pub(crate) fn is_writable(task: &TaskDecl, held: u32, word: WordId) -> bool
     ensures { result ≡ may_store task.now held word.0 }
 {

@@ -20,7 +20,8 @@ pub(crate) fn code_word(code: &[u32], pc: u32) -> Option<u32>
     }
 }
 
-/// The data word at an address, in a memory of `words` words, or None if there is none.
+/// The data word at an address, in a memory of `words` words, or None where none stands there.
+#[inline(always)]
 pub(crate) fn data_word(words: usize, address: u32) -> Option<u32>
     ensures { result ≡ data_at words address }
 {
@@ -32,6 +33,7 @@ pub(crate) fn data_word(words: usize, address: u32) -> Option<u32>
 }
 
 /// How many bytes a load or store moves.
+#[inline(always)]
 pub(crate) fn size(width: Width) -> u32
     ensures value { result ≡ size_of width }
     ensures some { 0 < result }
@@ -43,7 +45,8 @@ pub(crate) fn size(width: Width) -> u32
     }
 }
 
-/// The byte at this byte offset of a word.
+/// The byte at `lane` of a word.
+#[inline(always)]
 fn byte(word: u32, lane: u32) -> u8
     requires { lane < 4 }
     ensures { result ≡ byte_at word lane }
@@ -51,7 +54,8 @@ fn byte(word: u32, lane: u32) -> u8
     word.to_le_bytes()[lane as usize]
 }
 
-/// The two bytes from this byte offset of a word on.
+/// The two bytes from `lane` on of a word.
+#[inline(always)]
 fn half(word: u32, lane: u32) -> u16
     requires { lane + 1 < 4 }
     ensures { result ≡ half_at word lane }
@@ -59,7 +63,8 @@ fn half(word: u32, lane: u32) -> u16
     u16::from_le_bytes([byte(word, lane), byte(word, lane + 1)])
 }
 
-/// The register value after a load from the bytes of a word that begin at this byte offset.
+/// The register after a load from the bytes of a word that begin at `lane`.
+#[inline(always)]
 pub(crate) fn part(width: Width, word: u32, lane: u32) -> u32
     requires { lane + size_of width ≤ 4 }
     ensures { result ≡ extended width word lane }
@@ -73,7 +78,8 @@ pub(crate) fn part(width: Width, word: u32, lane: u32) -> u32
     }
 }
 
-/// The word after a store of the low bytes of a value at this byte offset.
+/// The word after a store of the low bytes of a value to the bytes that begin at `lane`.
+#[inline(always)]
 pub(crate) fn replace(width: Width, word: u32, lane: u32, value: u32) -> u32
     requires { lane + size_of width ≤ 4 }
     ensures { result ≡ replaced width word lane value }

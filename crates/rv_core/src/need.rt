@@ -43,6 +43,7 @@ pub struct Next {
 pub(crate) const A7: usize = 17;
 
 /// The trap of this kind at the task's instruction.
+#[inline(always)]
 fn trap(state: &TaskState, kind: TrapKind, value: u32) -> Need
     ensures { result ≡ traps state.now kind value }
 {
@@ -56,6 +57,7 @@ fn trap(state: &TaskState, kind: TrapKind, value: u32) -> Need
 }
 
 /// The address that is a register's value and an offset.
+#[inline(always)]
 pub(crate) fn address(state: &TaskState, base: Reg, offset: i32) -> u32
     ensures { result ≡ address_of state.now base offset }
 {
@@ -63,6 +65,7 @@ pub(crate) fn address(state: &TaskState, base: Reg, offset: i32) -> u32
 }
 
 /// Where a jump to an offset from the instruction goes.
+#[inline(always)]
 pub(crate) fn target(state: &TaskState, offset: i32) -> u32
     ensures { result ≡ jump_target state.now offset }
 {
@@ -70,6 +73,7 @@ pub(crate) fn target(state: &TaskState, offset: i32) -> u32
 }
 
 /// Where a jump to a register and an offset goes.
+#[inline(always)]
 pub(crate) fn register_jump(state: &TaskState, base: Reg, offset: i32) -> u32
     ensures { result ≡ register_target state.now base offset }
 {
@@ -77,6 +81,7 @@ pub(crate) fn register_jump(state: &TaskState, base: Reg, offset: i32) -> u32
 }
 
 /// A jump to this address.
+#[inline(always)]
 fn jump(state: &TaskState, target: u32) -> Need
     ensures { result ≡ jump_need state.now target }
 {
@@ -88,6 +93,7 @@ fn jump(state: &TaskState, target: u32) -> Need
 }
 
 /// A load of this width at this address.
+#[inline(always)]
 fn load(program: &Program, task: &TaskDecl, state: &TaskState, width: Width, address: u32) -> Need
     ensures { result ≡ when_aligned state.now width address
         (load_need task.now state.now address (data_at (length program.now.memory) address)) }
@@ -104,6 +110,7 @@ fn load(program: &Program, task: &TaskDecl, state: &TaskState, width: Width, add
 }
 
 /// A store of this width at this address.
+#[inline(always)]
 fn store(program: &Program, task: &TaskDecl, state: &TaskState, width: Width, address: u32) -> Need
     ensures { result ≡ when_aligned state.now width address
         (store_need task.now state.now (is_whole width) address (data_at (length program.now.memory) address)) }

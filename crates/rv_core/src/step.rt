@@ -26,14 +26,16 @@ fn instruction(program: &Program, state: &TaskState) -> Option<Instr>
 }
 
 impl TaskState {
-    /// The address of the instruction after this one.
+    /// The address of the instruction behind this one.
+    #[inline(always)]
     fn behind(&self) -> u32
         ensures { result ≡ next_pc self.now }
     {
         self.pc.wrapping_add(4)
     }
 
-    /// The instruction retires, and the task continues at `pc`.
+    /// The instruction retires, and the task goes on at `pc`.
+    #[inline(always)]
     fn go(&mut self, pc: u32)
         requires { self.old.retired < 4294967295 }
         ensures { self.new ≡ jumped_to self.old pc }
@@ -42,7 +44,8 @@ impl TaskState {
         self.retired += 1;
     }
 
-    /// The instruction retires: the value goes to the register, and the task continues at `pc`.
+    /// The instruction retires: the value goes to the register, and the task goes on at `pc`.
+    #[inline(always)]
     fn retire(&mut self, rd: Reg, value: u32, pc: u32)
         requires { self.old.retired < 4294967295 }
         ensures { self.new ≡ with_result self.old rd value pc }
@@ -67,7 +70,8 @@ impl TaskState {
         self.go(next);
     }
 
-    /// Where the task continues after a branch.
+    /// Where the task goes on behind a branch.
+    #[inline(always)]
     fn branch(&self, cond: Cond, a: Reg, b: Reg, offset: i32) -> u32
         ensures { result ≡ (if taken_of cond (value_in self.now.regs a) (value_in self.now.regs b)
             then jump_target self.now offset else next_pc self.now) }
@@ -80,6 +84,7 @@ impl TaskState {
     }
 
     /// Completes an instruction that loads nothing.
+    #[inline(always)]
     pub(crate) fn advance_by(&mut self, instr: Instr)
         requires retired { self.old.retired < 4294967295 }
         requires lock { instr ≡ Ecall → slice_index self.old.regs 10 < 32 }
@@ -120,6 +125,7 @@ impl TaskState {
     }
 
     /// Completes a load, whose word has this value; any other instruction does nothing.
+    #[inline(always)]
     pub(crate) fn load_by(&mut self, instr: Instr, value: u32)
         requires retired { self.old.retired < 4294967295 }
         requires aligned { IsAligned self.old instr }
@@ -139,6 +145,7 @@ impl TaskState {
     }
 
     /// The word after a store, where the word's value was `old`; any other instruction leaves it.
+    #[inline(always)]
     pub(crate) fn store_by(&self, instr: Instr, old: u32) -> u32
         requires { IsAligned self.now instr }
         ensures { result ≡ after_store self.now old (Some instr) }

@@ -94,15 +94,17 @@ impl WordCache {
         self.ways
     }
 
-    /// The word's entry; None exactly if the word has no pair. It looks only at the word's set, and takes no memory.
+    /// The word's entry; None exactly where the word has no pair. It looks at the word's set alone, and takes no memory.
+    #[inline(always)]
     pub fn get(&self, word: WordId) -> Option<Entry>
         ensures { result ≡ lookup word.0 self.now.pairs }
     {
         entry_of(&self.places, self.sets, self.ways, word)
     }
 
-    /// The word's entry; or if it has none, whether its set has room. One pass over the word's set tells what `get` and `room`
-    /// tell. Takes no memory.
+    /// The word's entry, or whether its set has room where it has none: one pass over the word's set tells what `get` and
+    /// `room` tell. Takes no memory.
+    #[inline(always)]
     pub fn probe(&self, word: WordId) -> Probe
         ensures { IsProbe result (lookup word.0 self.now.pairs) (has_room self.now word.0) }
     {
@@ -155,7 +157,8 @@ impl WordCache {
         let _row = self.places.as_slice();
     }
 
-    /// How many entries are pending. A counter is kept, so no place is looked at. Takes no memory.
+    /// How many entries are pending. It looks at no place, and takes no memory.
+    #[inline(always)]
     pub fn pending(&self) -> u32
         ensures { result ≡ pending_count self.now.pairs }
     {
@@ -171,8 +174,9 @@ impl WordCache {
         self.set_at(None, word, entry);
     }
 
-    /// As `set`. If the hint is the place that the last probe of the word gave, no other place is looked at. Any other hint, or
-    /// None, gives the same result.
+    /// As `set`. Where the hint is the place that the last probe of the word gave, no other place is looked at; none and any
+    /// other number serve too.
+    #[inline(always)]
     pub fn set_at(&mut self, hint: Option<usize>, word: WordId, entry: Entry)
         requires { (is_some (lookup word.0 self.old.pairs) || has_room self.old word.0) ≡ true }
         ensures { self.new ≡ record self.old { pairs = put word entry self.old.pairs } }
@@ -188,9 +192,10 @@ impl WordCache {
         );
     }
 
-    /// Gives the word, which must have no pair, this entry, and makes its pair the most recently used. Its set must have room.
-    /// If the hint is the place that the last probe of the word gave, no other place is looked at. Any other hint, or None,
-    /// gives the same result. Takes no memory.
+    /// Gives the word, which has no pair, this entry; its pair is the one used last then. Its set has room. Where the hint is the
+    /// place that the last probe of the word gave, no other place is looked at; none and any other number serve too. Takes no
+    /// memory.
+    #[inline(always)]
     pub fn add_at(&mut self, hint: Option<usize>, word: WordId, entry: Entry)
         requires none { lookup word.0 self.old.pairs ≡ None }
         requires room { has_room self.old word.0 ≡ true }
@@ -216,8 +221,9 @@ impl WordCache {
         self.change_at(None, word, entry);
     }
 
-    /// As `change`. If the hint is the place that the last probe of the word gave, no other place is looked at. Any other hint,
-    /// or None, gives the same result.
+    /// As `change`. Where the hint is the place that the last probe of the word gave, no other place is looked at; none and any
+    /// other number serve too.
+    #[inline(always)]
     pub fn change_at(&mut self, hint: Option<usize>, word: WordId, entry: Entry)
         requires { lookup word.0 self.old.pairs ≢ None }
         ensures { self.new ≡ record self.old { pairs = changed word.0 entry self.old.pairs } }
@@ -233,8 +239,9 @@ impl WordCache {
         self.touch_at(None, word);
     }
 
-    /// As `touch`. If the hint is the place that the last probe of the word gave, no other place is looked at. Any other hint,
-    /// or None, gives the same result.
+    /// As `touch`. Where the hint is the place that the last probe of the word gave, no other place is looked at; none and any
+    /// other number serve too.
+    #[inline(always)]
     pub fn touch_at(&mut self, hint: Option<usize>, word: WordId)
         requires { lookup word.0 self.old.pairs ≢ None }
         ensures { self.new ≡ record self.old { pairs = touched word self.old.pairs } }
@@ -256,8 +263,9 @@ impl WordCache {
         self.remove_at(None, word);
     }
 
-    /// As `remove`. If the hint is the place that the last probe of the word gave, no other place is looked at. Any other hint,
-    /// or None, gives the same result.
+    /// As `remove`. Where the hint is the place that the last probe of the word gave, no other place is looked at; none and any
+    /// other number serve too.
+    #[inline(always)]
     pub fn remove_at(&mut self, hint: Option<usize>, word: WordId)
         ensures { self.new ≡ record self.old { pairs = without word.0 self.old.pairs } }
     {

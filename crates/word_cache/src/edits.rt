@@ -8,7 +8,8 @@ use crate::row::{Entry, Place, Row};
 use crate::times::tick;
 use dn_base::WordId;
 
-/// Gives the word this entry, and makes its pair the most recently used. The hint is where its pair may be.
+/// Gives the word this entry, and makes its pair the one used last. The hint is where its pair may stand.
+#[inline(always)]
 pub(crate) fn write_last(
     places: &mut Row,
     clock: &mut u64,
@@ -34,8 +35,9 @@ pub(crate) fn write_last(
     );
 }
 
-/// Gives the word, which has no pair, this entry, and makes its pair the most recently used. Its set has room. The hint is a
-/// place of the set that may be free.
+/// Gives the word, which has no pair, this entry, and makes its pair the one used last. Its set has room. The hint is a place
+/// of the set that may be free.
+#[inline(always)]
 pub(crate) fn write_new(
     places: &mut Row,
     clock: &mut u64,
@@ -63,6 +65,7 @@ pub(crate) fn write_new(
 }
 
 /// Gives the word's pair this entry. The hint is where the pair may stand.
+#[inline(always)]
 pub(crate) fn change_entry(
     places: &mut Row,
     sets: u32,
@@ -88,7 +91,8 @@ pub(crate) fn change_entry(
     }
 }
 
-/// Makes the word's pair the most recently used. The hint is where it may be.
+/// Makes the word's pair the one used last. The hint is where it may stand.
+#[inline(always)]
 pub(crate) fn use_again(
     places: &mut Row,
     clock: &mut u64,
@@ -109,7 +113,8 @@ pub(crate) fn use_again(
     }
 }
 
-/// Removes the word's pair, if it has one. The hint is where the pair may be.
+/// Takes the word's pair out, if it has one. The hint is where the pair may stand.
+#[inline(always)]
 pub(crate) fn take_out(places: &mut Row, sets: u32, ways: u32, hint: Option<usize>, word: WordId)
     requires row { IsPlaceRow sets ways places.old }
     ensures row { (clock : ℕ) → IsCacheRow sets ways clock places.old → IsCacheRow sets ways clock places.new }

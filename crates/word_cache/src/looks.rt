@@ -10,6 +10,7 @@ use crate::row::{Entry, Place, Probe, Row};
 use dn_base::WordId;
 
 /// The word's entry, if it has a pair. It looks at the word's set alone.
+#[inline(always)]
 pub(crate) fn entry_of(row: &Row, sets: u32, ways: u32, word: WordId) -> Option<Entry>
     requires { IsPlaceRow sets ways row.now }
     ensures { result ≡ lookup word.0 (pairs_by_use row.now) }
@@ -21,6 +22,7 @@ pub(crate) fn entry_of(row: &Row, sets: u32, ways: u32, word: WordId) -> Option<
 }
 
 /// What the row has for the word. It looks at the word's set alone, and once.
+#[inline(always)]
 pub(crate) fn probe_of(row: &Row, sets: u32, ways: u32, word: WordId) -> Probe
     requires { IsPlaceRow sets ways row.now }
     ensures { IsProbe result (lookup word.0 (pairs_by_use row.now)) (nat_lt (set_count sets word.0 (pairs_by_use row.now)) ways) }

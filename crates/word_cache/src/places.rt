@@ -8,6 +8,7 @@ use crate::row::{Entry, Place, Row};
 use dn_base::{WordId, remainder};
 
 /// Where the word's set begins.
+#[inline(always)]
 pub(crate) fn start_of(sets: u32, ways: u32, word: WordId) -> usize
     requires sets { 0 < sets }
     requires most_sets { sets ≤ 256 }
@@ -27,6 +28,7 @@ pub(crate) struct Found {
 }
 
 /// Where the word's pair stands, and a free place of its set. It looks at the word's set alone, and once.
+#[inline(always)]
 pub(crate) fn find_word(row: &Row, sets: u32, ways: u32, word: WordId) -> Found
     requires { IsPlaceRow sets ways row.now }
     ensures own { IsOwnPlace word.0 row.now result.own }
@@ -60,6 +62,7 @@ pub(crate) enum Spot {
 }
 
 /// Where the word's pair stands, or else a free place of its set. It looks at the word's set alone, and once.
+#[inline(always)]
 pub(crate) fn spot_of(row: &Row, sets: u32, ways: u32, word: WordId) -> Spot
     requires { IsPlaceRow sets ways row.now }
     ensures { IsSpot sets ways word.0 row.now result }
@@ -80,7 +83,8 @@ pub(crate) fn spot_of(row: &Row, sets: u32, ways: u32, word: WordId) -> Spot
     }
 }
 
-/// As `spot_of`. The hint is where the word's pair may be; if it is there, no other place is looked at.
+/// As `spot_of`. The hint is where the word's pair may stand: where it stands there, no other place is looked at.
+#[inline(always)]
 pub(crate) fn spot_near(row: &Row, sets: u32, ways: u32, word: WordId, hint: Option<usize>) -> Spot
     requires { IsPlaceRow sets ways row.now }
     ensures { IsSpot sets ways word.0 row.now result }
@@ -92,6 +96,7 @@ pub(crate) fn spot_near(row: &Row, sets: u32, ways: u32, word: WordId, hint: Opt
 }
 
 /// The place of the word's pair, if it has one. The hint is where it may stand.
+#[inline(always)]
 pub(crate) fn place_near(
     row: &Row,
     sets: u32,
@@ -109,6 +114,7 @@ pub(crate) fn place_near(
 }
 
 /// The entry at a place; None where no pair stands there.
+#[inline(always)]
 pub(crate) fn entry_at(row: &[Place], place: usize) -> Option<Entry>
     requires { place < length row.now }
     ensures { (d : Place) → result ≡ option_map (λ (p : Pair). p.1) (slice_index_or row.now place d).pair }
@@ -119,8 +125,9 @@ pub(crate) fn entry_at(row: &[Place], place: usize) -> Option<Entry>
     }
 }
 
-/// The place for the word's pair: the place that it has, or a free one of its set. The word has a pair, or its set has room.
-/// The hint is where its pair may be.
+/// The place for the word's pair: the one that it has, or a free one of its set. The word has a pair, or its set has room. The
+/// hint is where its pair may stand.
+#[inline(always)]
 pub(crate) fn choose(row: &Row, sets: u32, ways: u32, word: WordId, hint: Option<usize>) -> usize
     requires row { IsPlaceRow sets ways row.now }
     requires room { (is_some (lookup word.0 (pairs_by_use row.now)) || nat_lt (set_count sets word.0 (pairs_by_use row.now)) ways) ≡ true }
@@ -137,6 +144,7 @@ pub(crate) fn choose(row: &Row, sets: u32, ways: u32, word: WordId, hint: Option
 
 /// A place for the pair of a word that has none, and whose set has room. The hint is a place of the set that may be free; if it
 /// is, no other place is looked at.
+#[inline(always)]
 pub(crate) fn choose_free(
     row: &Row,
     sets: u32,

@@ -20,6 +20,7 @@ pub enum Entry {
 
 impl Entry {
     /// Whether the entry is pending.
+    #[inline(always)]
     pub(crate) fn is_pending(&self) -> bool
         ensures { result ≡ is_pending self.now }
     {
@@ -84,6 +85,7 @@ impl Model for Row {
 }
 
 /// The word whose pair stands at the place, if there is one.
+#[inline(always)]
 fn place_word(place: &Place) -> Option<WordId>
     ensures { result ≡ place_word place.now }
 {
@@ -94,6 +96,7 @@ fn place_word(place: &Place) -> Option<WordId>
 }
 
 /// Whether the place has a pending entry.
+#[inline(always)]
 fn has_pending(place: &Place) -> bool
     ensures { result ≡ has_pending place.now }
 {
@@ -104,13 +107,15 @@ fn has_pending(place: &Place) -> bool
 }
 
 /// Whether the place has a copy.
+#[inline(always)]
 fn has_copy(place: &Place) -> bool
     ensures { result ≡ has_copy place.now }
 {
     matches!(place.pair, Some((_, Entry::Valid { .. })))
 }
 
-/// How many places pass a test after one place is replaced: `did` and `does` tell whether the old and the new place pass it.
+/// How many places pass a test, once one that did or didn't is replaced by one that does or doesn't.
+#[inline(always)]
 fn recount(count: usize, did: bool, does: bool) -> usize
     requires did { (if did then 1 else 0) ≤ count }
     requires count { count < 9223372036854775808 }
@@ -149,6 +154,7 @@ impl Row {
     }
 
     /// How many places there are.
+    #[inline(always)]
     pub(crate) fn len(&self) -> usize
         ensures { result ≡ length self.now }
     {
@@ -156,6 +162,7 @@ impl Row {
     }
 
     /// How many places have a pending entry.
+    #[inline(always)]
     pub(crate) fn pending(&self) -> usize
         ensures { result ≡ count_by has_pending self.now }
     {
@@ -170,6 +177,7 @@ impl Row {
     }
 
     /// The places.
+    #[inline(always)]
     pub(crate) fn as_slice(&self) -> &[Place]
         ensures value { result.now ≡ self.now }
     {
@@ -177,6 +185,7 @@ impl Row {
     }
 
     /// A place.
+    #[inline(always)]
     pub(crate) fn at(&self, index: usize) -> Place
         requires { index < length self.now }
         ensures { (d : Place) → result ≡ slice_index_or self.now index d }
@@ -185,6 +194,7 @@ impl Row {
     }
 
     /// Whether the word's pair stands at a place.
+    #[inline(always)]
     pub(crate) fn has_word(&self, index: usize, word: WordId) -> bool
         requires { index < length self.now }
         ensures { (d : Place) → result ≡ has_word word.0 (slice_index_or self.now index d) }
@@ -193,6 +203,7 @@ impl Row {
     }
 
     /// Whether no pair stands at a place.
+    #[inline(always)]
     pub(crate) fn is_free(&self, index: usize) -> bool
         requires { index < length self.now }
         ensures { (d : Place) → IsTrue result ↔ ((slice_index_or self.now index d).pair ≡ None) }
@@ -201,6 +212,7 @@ impl Row {
     }
 
     /// Gives a place another content.
+    #[inline(always)]
     pub(crate) fn set(&mut self, index: usize, place: Place)
         requires { index < length self.old }
         ensures { self.new ≡ slice_set self.old index place }

@@ -27,7 +27,8 @@ fn renumber(places: &mut Row, sets: u32, ways: u32) -> u64
     time
 }
 
-/// A time after those of all places. Only if the clock is at its last time, all places are numbered from 1 again.
+/// A time behind those of all places. Only where the clock stands at its last time, all are numbered from 1 again.
+#[inline(always)]
 fn free_time(places: &mut Row, clock: u64, sets: u32, ways: u32) -> u64
     requires { IsCacheRow sets ways clock places.old }
     ensures row { IsPlaceRow sets ways places.new }
@@ -44,7 +45,8 @@ fn free_time(places: &mut Row, clock: u64, sets: u32, ways: u32) -> u64
     }
 }
 
-/// A time after those of all places; the clock moves on to the next.
+/// A time behind those of all places, and the clock behind it.
+#[inline(always)]
 pub(crate) fn tick(places: &mut Row, clock: &mut u64, sets: u32, ways: u32) -> u64
     requires { IsCacheRow sets ways clock.old places.old }
     ensures row { IsPlaceRow sets ways places.new }
