@@ -62,11 +62,12 @@ impl Content {
         ensures observed { result ≡ observed (state_of (setting context.now) self.old) (AnInstr core) }
         ensures known { KnowsOwn (setting context.now) self.new }
     {
-        let step = instruct_at(&mut self.nodes, core.0 as usize, context);
-        self.core_sends(context, core, &step.sent);
+        let mut sent = None;
+        let seen = instruct_at(&mut self.nodes, core.0 as usize, context, &mut sent);
+        self.core_sends(context, core, &sent);
         Stepped {
             kind: EventKind::Instr,
-            seen: step.seen,
+            seen,
             granted: None,
         }
     }

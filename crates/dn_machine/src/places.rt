@@ -6,24 +6,30 @@ ghost use Rattle.registration_protocol.specs.Messages.{node_gets};
 ghost use Rattle.registration_protocol.specs.Setting.{setting};
 ghost use Rattle.registry_bank.specs.Bank.{BankParts, bank_gets};
 
-use dn_base::WordId;
+use dn_base::{LoadSeen, WordId};
 use message_net::{Event, Message, Outgoing};
-use registration_protocol::{Context, Node, Received, Step};
+use registration_protocol::{Context, Node, Received};
 use registry_bank::Bank;
 
-/// The next instruction of the node at this place.
+/// The next instruction of the node at this place. What it sends is put into the caller's place.
 #[inline(always)]
-pub(crate) fn instruct_at(nodes: &mut Vec<Node>, place: usize, context: &Context<'_>) -> Step
+pub(crate) fn instruct_at(
+    nodes: &mut Vec<Node>,
+    place: usize,
+    context: &Context<'_>,
+    sent: &mut Option<Outgoing>,
+) -> Option<LoadSeen>
     requires context { IsContext (setting context.now) }
     requires place { place < length nodes.old.items }
     requires fits { (n : NodeParts) → slice_get nodes.old.items place ≡ Some n → Fits (setting context.now) n }
     requires may { (n : NodeParts) → slice_get nodes.old.items place ≡ Some n → may_instr (setting context.now) n ≡ true }
     ensures { (n : NodeParts) → slice_get nodes.old.items place ≡ Some n
-        → (nodes.new.items ≡ slice_set nodes.old.items place (instructed (setting context.now) n).0) × (result ≡ (instructed (setting context.now) n).1)
+        → (nodes.new.items ≡ slice_set nodes.old.items place (instructed (setting context.now) n).0)
+        × (record { sent = sent.new; seen = result } ≡ (instructed (setting context.now) n).1)
         × Fits (setting context.now) (instructed (setting context.now) n).0 }
 {
     let node = &mut nodes[place];
-    node.instr(context)
+    node.instr_into(context, sent)
 }
 
 /// The node at this place evicts a word.
