@@ -4,6 +4,7 @@ pub mod PhaseLemmas
 pub mod TaskLemmas
 pub mod SoundLemmas
 pub mod NameLemmas
+pub mod ShelfLemmas
 pub mod SourceLemmas
 pub mod RangeLemmas
 pub mod IndexLemmas

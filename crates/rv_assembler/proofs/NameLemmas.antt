@@ -5,7 +5,7 @@ use Rattle.std.proofs.lemmas.Bool.{cases_Bool}
 use Rattle.std.proofs.lemmas.Slice.Eq.{bytes_eq-Decides}
 use Rattle.rv_assembler.specs.declared.names.Meaning.{Meaning}
 
-first-none : (o : Option Meaning) → o ≡ option_or o None
+pub first-none : (o : Option Meaning) → o ≡ option_or o None
 first-none None = refl
 first-none (Some m) = refl
 

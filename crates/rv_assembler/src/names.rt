@@ -1,7 +1,9 @@
 //! The names of a text: labels, regions and locks, and what each means.
-ghost use Rattle.std.specs.Prelude.{◌≡◌, ℕ, List, Option, Some, None, bytes_eq, if◌then◌else◌, OnOk, IfOk};
+ghost use Rattle.std.specs.Prelude.{◌≡◌, ℕ, List, Option, Some, None, bytes_eq, if◌then◌else◌, length, OnOk, IfOk};
+ghost use Rattle.std.specs.List.{All};
+ghost use Rattle.std.specs.BTreeMap.{IsEmpty};
 ghost use Rattle.std.specs.Option.{option_or};
-ghost use Rattle.rv_assembler.specs.Lookup.{name_lookup};
+ghost use Rattle.rv_assembler.specs.Lookup.{hash_after, shelf_number, found_on, name_lookup};
 ghost use Rattle.rv_assembler.specs.Operand.{bytes_of};
 ghost use Rattle.rv_assembler.specs.Size.{code_word_count};
 ghost use Rattle.rv_assembler.specs.Counts.{region_words};
@@ -43,6 +45,9 @@ pub(crate) const NO_COUNT: Count = Count {
     regions: 0,
     locks: 0,
 };
+
+/// How many names a shelf has on average, at most, where each line declares one.
+const NAMES_ON_A_SHELF: usize = 8;
 
 /// How many code words a statement gives.
 pub(crate) fn size(code: Code) -> u32
@@ -98,38 +103,98 @@ fn count_after(count: &Count, reading: &Reading) -> Count
     }
 }
 
-/// The names of a text. They are kept in a tree, so a look-up takes logarithmic time whatever the names are. The keys are
-/// slices of the text.
+/// Some of the names of a text. The keys are parts of the text.
+type Shelf<'a> = BTreeMap<&'a [u8], Meaning>;
+
+/// What a name means by a shelf.
+fn found_on<'a>(shelf: &Shelf<'a>, name: &'a [u8]) -> Option<Meaning>
+    ensures { result ≡ found_on shelf.now name.now }
+{
+    shelf.get(&name).copied()
+}
+
+/// Gives a name a meaning on its shelf, unless it has one.
+fn put_on<'a>(shelf: &mut Shelf<'a>, name: &'a [u8], meaning: Meaning) -> Result<(), Memory>
+    ensures { OnOk result ((q : List ℕ) → found_on shelf.new q ≡ option_or (found_on shelf.old q) (if bytes_eq name.now q then Some meaning else None)) }
+{
+    // Most names are new, so that one search does. A name that had a meaning gets it back.
+    if let Some(first) = shelf.insert(name, meaning)? {
+        shelf.insert(name, first)?;
+    }
+    Ok(())
+}
+
+/// So many shelves without names.
+fn empty_shelves<'a>(alloc: Global, count: usize) -> Result<Vec<Shelf<'a>>, Memory>
+    ensures { IfOk result (λ shelves. All IsEmpty shelves.items) }
+{
+    let mut shelves = Vec::with_capacity(alloc, count)?;
+    for _shelf in 0..count {
+        shelves.push(BTreeMap::new(alloc))?;
+    }
+    Ok(shelves)
+}
+
+/// A hash of a name.
+fn hash(name: &[u8]) -> u64
+    ensures { result ≡ hash_after 0 name.now }
+{
+    let mut hash = 0;
+    for byte in name {
+        hash = (hash * 31 + u64::from(*byte)) % 4294967296;
+    }
+    hash
+}
+
+/// The names of a text, on shelves by a hash of their bytes. So a look-up mostly compares few names. Each shelf is a tree: where
+/// names are chosen to stand on one shelf, a look-up takes time by the logarithm of their number.
 #[derive(Drop)]
 pub(crate) struct Names<'a> {
-    index: BTreeMap<&'a [u8], Meaning>,
+    shelves: Vec<Shelf<'a>>,
+    last: Shelf<'a>,
 }
 
 impl<'a> Names<'a> {
-    fn new(alloc: Global) -> Names<'a>
-        ensures { (q : List ℕ) → name_lookup result q ≡ None }
+    /// No names, and so many shelves for them beside the last one.
+    fn new(alloc: Global, count: usize) -> Result<Names<'a>, Memory>
+        ensures { IfOk result (λ names. (q : List ℕ) → name_lookup names q ≡ None) }
     {
-        Names {
-            index: BTreeMap::new(alloc),
-        }
+        Ok(Names {
+            shelves: empty_shelves(alloc, count)?,
+            last: BTreeMap::new(alloc),
+        })
+    }
+
+    /// The number of a name's shelf; the last one has the number behind the others.
+    fn shelf_number(&self, name: &[u8]) -> usize
+        ensures { result ≡ shelf_number (length self.now.shelves.items) name.now }
+    {
+        let count = self.shelves.len() as u64;
+        (hash(name) % (count + 1)) as usize
     }
 
     /// What a name means, if it is declared.
     pub fn meaning(&self, name: &'a [u8]) -> Option<Meaning>
         ensures { result ≡ name_lookup self.now name.now }
     {
-        self.index.get(&name).copied()
+        let number = self.shelf_number(name);
+        if number < self.shelves.len() {
+            found_on(&self.shelves[number], name)
+        } else {
+            found_on(&self.last, name)
+        }
     }
 
     /// Gives a name a meaning, unless it has one.
     fn declare(&mut self, name: &'a [u8], meaning: Meaning) -> Result<(), Memory>
         ensures { OnOk result ((q : List ℕ) → name_lookup self.new q ≡ option_or (name_lookup self.old q) (if bytes_eq name.now q then Some meaning else None)) }
     {
-        // Most names are new, so one search is enough for them. A name that already had a meaning gets it back.
-        if let Some(first) = self.index.insert(name, meaning)? {
-            self.index.insert(name, first)?;
+        let number = self.shelf_number(name);
+        if number < self.shelves.len() {
+            put_on(&mut self.shelves[number], name, meaning)
+        } else {
+            put_on(&mut self.last, name, meaning)
         }
-        Ok(())
     }
 
     /// Declares the label of a line.
@@ -220,7 +285,7 @@ pub(crate) fn survey<'a>(
 ) -> Result<Names<'a>, Memory>
     ensures { IfOk result (λ names. (q : List ℕ) → name_lookup names q ≡ meaning_in text.now no_count readings.now q) }
 {
-    let mut names = Names::new(alloc);
+    let mut names = Names::new(alloc, readings.len() / NAMES_ON_A_SHELF)?;
     let mut count = NO_COUNT;
     for reading in readings {
         names.declare_line(text, &count, reading)?;

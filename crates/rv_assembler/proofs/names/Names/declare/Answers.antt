@@ -1,17 +1,11 @@
-use Rattle.std.proofs.Common.{sym, ◌∙◌}
-use Rattle.std.proofs.lemmas.Map.Text.{btree_map_updates_str}
-use Rattle.rv_assembler.specs.Lookup.{name_lookup}
-use Rattle.rv_assembler.proofs.NameLemmas.{restored, absent}
+use Rattle.std.proofs.Common.{◌≤◌, length, arith}
+use Rattle.std.proofs.lemmas.Result.{on_ok_weaker}
+use Rattle.rv_assembler.specs.Lookup.{shelf_number}
+use Rattle.rv_assembler.proofs.ShelfLemmas.{put-last}
 use Rattle.rv_assembler.proofs.names.Names.declare.Goals as goal
 
-pub returns-in_ok-insert : goal.returns-in_ok-insert
-returns-in_ok-insert c = λ q.
-    restored (name_lookup c.args.self.now) (name_lookup (record { index = c.insert.new.self })) (name_lookup (record { index = c.insert-in-Some.new.self })) c.args.name.now q c.args.meaning c.in-Some.first
-    (sym c.in_ok-first.ensures.old ∙ c.in-Some.is)
-    (btree_map_updates_str c.args.name.now c.args.self.now.index c.insert.new.self _ c.in_ok-first.ensures.updates q)
-    (btree_map_updates_str c.args.name.now c.insert.new.self c.insert-in-Some.new.self _ c.in_ok-insert.ensures.updates q)
-
-pub returns-in_default : goal.returns-in_default
-returns-in_default c = λ q.
-    btree_map_updates_str c.args.name.now c.args.self.now.index c.insert.new.self _ c.in_ok-first.ensures.updates q
-    ∙ absent (name_lookup c.args.self.now) c.args.name.now q c.args.meaning (sym c.in_ok-first.ensures.old ∙ c.in_default.is)
+pub returns-else-number-len : goal.returns-else-number-len
+returns-else-number-len c =
+    let shelves = c.args.self.now.shelves.items in
+    let past : length shelves ≤ shelf_number (length shelves) c.args.name.now = omega (arith, c.len.ensures, c.shelf_number-number.ensures, c.if-number-len.false) in
+    on_ok_weaker c.put_on-else-number-len.result (put-last shelves c.args.self.now.last c.put_on-else-number-len.new.shelf c.args.name.now c.args.meaning past) c.put_on-else-number-len.ensures
