@@ -37,7 +37,7 @@ height chart = bottom chart + 18
 
 -- the style of the classes of elements, in light and dark: each text has a contrast of at least 4.5 to its background
 unfoldable pub style : List ℕ
-style = codes "<style>.denovo-ground{fill:#fff}.denovo-odd{fill:#edf2f7}.denovo-rule{stroke:#7d8b99}.denovo-lane{stroke:#b4bac0}\n.denovo-mail,.denovo-cut{stroke:#26598c;fill:none}.denovo-cut{stroke-dasharray:7 4}.denovo-event,.denovo-head{fill:#26598c}\n.denovo-path{stroke:#f93;stroke-width:7;stroke-opacity:.45;stroke-linejoin:round;fill:none}.denovo-ring{stroke:#b34700;stroke-width:2;fill:none}\n.denovo-text{fill:#1c2126;paint-order:stroke;stroke:#fff;stroke-width:4;stroke-linejoin:round}.denovo-left{text-anchor:end}\n.denovo-title{font-size:15px}.denovo-actor{font-weight:bold;text-anchor:middle}.denovo-number{fill:#4d565f}.denovo-change{fill:#832a00}\n.denovo-end{fill:#8c0d0d;font-weight:bold}\n@media (prefers-color-scheme:dark){.denovo-ground{fill:#14181d}.denovo-odd{fill:#1e2731}.denovo-rule{stroke:#7d8b99}.denovo-lane{stroke:#545d66}\n.denovo-mail,.denovo-cut{stroke:#86b9ec}.denovo-event,.denovo-head{fill:#86b9ec}.denovo-path{stroke-opacity:.4}.denovo-ring{stroke:#ffb454}\n.denovo-text{fill:#e6e9ec;stroke:#14181d}.denovo-number{fill:#aab4be}.denovo-change{fill:#ffb489}.denovo-end{fill:#ff9d9d}}</style>\n"
+style = codes "<style>.denovo-chart{color-scheme:light dark}.denovo-ground{fill:#fff}.denovo-odd{fill:#edf2f7}.denovo-rule{stroke:#7d8b99}.denovo-lane{stroke:#b4bac0}\n.denovo-mail,.denovo-cut{stroke:#26598c;fill:none}.denovo-cut{stroke-dasharray:7 4}.denovo-event,.denovo-head{fill:#26598c}\n.denovo-path{stroke:#f93;stroke-width:7;stroke-opacity:.45;stroke-linejoin:round;fill:none}.denovo-ring{stroke:#b34700;stroke-width:2;fill:none}\n.denovo-text{fill:#1c2126;paint-order:stroke;stroke:#fff;stroke-width:4;stroke-linejoin:round}.denovo-left{text-anchor:end}\n.denovo-title{font-size:15px}.denovo-actor{font-weight:bold;text-anchor:middle}.denovo-number{fill:#4d565f}.denovo-change{fill:#832a00}\n.denovo-end{fill:#8c0d0d;font-weight:bold}\n@media screen and (prefers-color-scheme:dark){.denovo-ground{fill:#14181d}.denovo-odd{fill:#1e2731}.denovo-rule{stroke:#7d8b99}.denovo-lane{stroke:#545d66}\n.denovo-mail,.denovo-cut{stroke:#86b9ec}.denovo-event,.denovo-head{fill:#86b9ec}.denovo-path{stroke-opacity:.4}.denovo-ring{stroke:#ffb454}\n.denovo-text{fill:#e6e9ec;stroke:#14181d}.denovo-number{fill:#aab4be}.denovo-change{fill:#ffb489}.denovo-end{fill:#ff9d9d}}</style>\n"
 
 -- what the marks mean, under the title
 unfoldable pub legend : List ℕ
