@@ -4,8 +4,10 @@
     tools/check_page.py [--first N] [--rows N] [--program] [--shot FOLDER] [TEXT ..]
 
 Each text (the examples below where none is named) is run by tools/reference.py with the seed 1. Its page is tools/page.html with the
-data in the place of `@@RUN@@`, as tools/reference.py makes them, or with --program the page that `./view --mode page` writes. In the browser the button Next is pressed for each event, and then Back, and after each press the page's
-state is compared with the state that the machine of tools/reference.py has there; then the page jumps to and fro. It is outside the gate.
+data in the place of `@@RUN@@`, as tools/reference.py makes them, or with --program the page that `./view --mode page` writes. In the
+browser the button Next is pressed for each event, and then Back, and after each press the page's state is compared with the state that
+the machine of tools/reference.py has there; then the page jumps to and fro. With --program the text that `./view --mode state` prints
+before each of these events is compared too, with the one of the same machine. It is outside the gate.
 With --shot it leaves pictures of the page in the folder: 800 and 1,600 wide, light and dark.
 
 It exits with 0 where no state differs, 1 otherwise, and 0 with a word of it where no browser is there."""
@@ -65,6 +67,17 @@ def page_of_program(document, options, _name):
     return done.stdout.decode() if done.returncode == 0 else None
 
 
+def differing_states(document, first, count):
+    """The events, in the range, before which `./view --mode state` prints another text than tools/reference.py."""
+    differ = []
+    for event in map(str, range(first, first + count)):
+        view = [os.path.join(HERE, "..", "view"), "--mode", "state", "--event", event]
+        shown = subprocess.run(view, input=document, stdout=subprocess.PIPE, stderr=subprocess.DEVNULL).stdout
+        if shown != reference("state", event, data=document):
+            differ.append(event)
+    return differ
+
+
 def check(command, folder, path, options):
     with open(path, "rb") as file:
         document = reference("--mode", "trace", data=file.read())
@@ -89,7 +102,10 @@ def check(command, folder, path, options):
         print(name + ": the page didn't come to its end")
         return False
     print("%s: %d events, %d states differ%s" % (name, verdict["events"], verdict["count"], "".join("; " + bad for bad in verdict["bad"])))
-    return verdict["count"] == 0
+    differ = differing_states(document, options.first, verdict["events"]) if options.program else []
+    if options.program:
+        print("%s: %d texts of the mode state differ%s" % (name, len(differ), "".join("; event " + event for event in differ[:20])))
+    return verdict["count"] == 0 and not differ
 
 
 def shots(command, folder, name, shown):
