@@ -1,6 +1,6 @@
 # How many copies a writer needn't tell. The cores 1 to 15 read 16 words in the first phase, as many of them as the number in the line
 # with the comment `readers` says, and core 0 writes the words in the second phase. A home with a list of sharers would have to tell
-# each copy of each word; here nobody is told, and the copies go by themselves at the end of the phase.
+# each copy of each word; here nobody is told. If a third phase followed, each reader would drop its copies by itself when it begins.
 # Look at `count reg-req 31`: 16 of them are core 0's, 15 the readers' own; and `count reg-fwd 0`: no message goes to a reader.
 #   ./denovo < examples/many-readers.s
 .region shared, 16
