@@ -74,7 +74,7 @@ for document in documents:
         path = path[0] or path[1].removeprefix("../").split("#")[0]
         if not has_path(path, document):
             found.append(f"{document}: no such link: {path}")
-    for place in re.findall(r"\((\S*#[\w-]+)\)|^\[\w+\]: (\S*#[\w-]+)$", text, re.M):
+    for place in re.findall(r"\]\(([^\s()]*#[\w-]+)\)|^\[\w+\]: (\S*#[\w-]+)$", text, re.M):
         path, anchor = (place[0] or place[1]).split("#")
         page = pathlib.Path(document).parent / path if path else pathlib.Path(document)
         heads = re.findall(r"^#+ (.*)$", page.read_text(), re.M) if page.is_file() else []
