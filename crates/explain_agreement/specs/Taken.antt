@@ -20,7 +20,6 @@ IsTaken (explained.TheVariants.Refused number) = ⊥
 
 -- with which text an answer is explained: the one that denovo was asked about, and in the mode replay the text of the document;
 -- if the bytes are no document, any text will do
--- bytes are no document any text will do
 abbrev pub is_beside : Mode → (asked text : List ℕ) → Type 0
 is_beside mode.TheVariants.Replay asked text = (t : Trace) → IsDocument asked t → text ≡ t.text
 is_beside m asked text = text ≡ asked
