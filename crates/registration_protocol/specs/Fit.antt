@@ -67,3 +67,9 @@ pub record IsNeed (C : Setting) (d : TaskDecl) (asked : Need) (t : TaskState) : 
   pub going : t.end ≡ None
   pub fuel : t.retired ≤ C.fuel
   pub is_need : asked ≡ need_of C.program d C.fuel t
+
+-- the task is this one, hasn't ended, and its next instruction needs nothing, whatever declaration it has
+pub record Computes (C : Setting) (task : Option TaskState) (t : TaskState) : Type 0 where
+  pub is : task ≡ Some t
+  pub going : t.end ≡ None
+  pub local : (d : TaskDecl) → need_of C.program d C.fuel t ≡ need.TheVariants.Local

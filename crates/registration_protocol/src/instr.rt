@@ -1,4 +1,4 @@
-ghost use Rattle.std.specs.Prelude.{◌≡◌, ◌<◌, ◌≤◌, ◌||◌, true, Some, None, length, IfSome};
+ghost use Rattle.std.specs.Prelude.{◌≡◌, ◌<◌, ◌≤◌, ◌||◌, true, false, Some, None, length, IfSome};
 ghost use Rattle.std.specs.Option.{is_some, option_map};
 ghost use Rattle.region_table.specs.Plan.{uses_plainly};
 ghost use Rattle.rv_core.specs.Kinds.{IsLoad, IsStore, IsAdvance};
@@ -9,7 +9,7 @@ ghost use Rattle.message_net.specs.declared.message.Message.TheVariants.{Acquire
 ghost use Rattle.message_net.specs.Mail.{to_home};
 ghost use Rattle.word_cache.specs.declared.row.Entry.TheVariants.{Registered as AsRegistered};
 ghost use Rattle.word_cache.specs.Cache.{has_room, IsProbe, lookup, put};
-ghost use Rattle.registration_protocol.specs.Fit.{IsContext, Fits, IsNeed};
+ghost use Rattle.registration_protocol.specs.Fit.{IsContext, Fits, IsNeed, Computes};
 ghost use Rattle.registration_protocol.specs.Node.{entry_of, signature_of};
 ghost use Rattle.registration_protocol.specs.declared.node.NodeWait.TheVariants.{None as WaitsForNothing, Locking};
 ghost use Rattle.registration_protocol.specs.OwnEvents.{may_access, lets, may_instr, misses, me, stored, registers_word, load_row, store_row, instr_row, instructed, noted};
@@ -42,6 +42,20 @@ fn advance(task: &mut Option<TaskState>, context: &Context<'_>, declared: &TaskD
 {
     if let Some(task) = task {
         context.decoded.advance(task, declared, context.fuel);
+    }
+}
+
+/// Completes the next instruction of a task that goes on, if it needs nothing besides the task's own registers. Otherwise it does
+/// nothing. Returns whether it completed one.
+#[inline(always)]
+fn compute(task: &mut Option<TaskState>, context: &Context<'_>) -> bool
+    requires { IfSome task.old (λ t. t.retired ≤ (setting context.now).fuel) }
+    ensures done { result ≡ true → (t : TaskState) × Computes (setting context.now) task.old t × (task.new ≡ Some (advanced (setting context.now).program t)) }
+    ensures left { result ≡ false → task.new ≡ task.old }
+{
+    match task {
+        Some(task) if task.end.is_none() => context.decoded.compute(task, context.fuel),
+        _ => false,
     }
 }
 
@@ -92,7 +106,7 @@ fn sign(
 }
 
 /// The target of a store: the word's value so far, and what the cache's probe told.
-#[derive(Clone, Copy, Debug)]
+#[derive(Clone, Copy)]
 struct Target {
     word: WordId,
     probe: Probe,
@@ -427,6 +441,10 @@ impl Node {
         ensures node { self.new ≡ (instructed (setting context.now) self.old).0 }
         ensures step { record { sent = sent.new; seen = result } ≡ (instructed (setting context.now) self.old).1 }
     {
+        // Most instructions need nothing. Such a one is completed by one look, without the task's declaration.
+        if compute(&mut self.task, context) {
+            return None;
+        }
         let task = self.task.as_ref()?;
         let declared = declaration(context.decoded.program(), self.phase, self.core)?;
         if task.end.is_some() {

@@ -17,7 +17,7 @@ use word_cache::{Entry, Probe, WordCache};
 use write_signature::Signature;
 
 /// What a node waits for.
-#[derive(Clone, Copy, Debug, PartialEq, Eq)]
+#[derive(Clone, Copy, PartialEq, Eq)]
 pub enum NodeWait {
     /// Nothing.
     None,
@@ -30,14 +30,14 @@ pub enum NodeWait {
 }
 
 /// What an instruction sends, and the load that it completed.
-#[derive(Clone, Copy, Debug, PartialEq, Eq)]
+#[derive(Clone, Copy, PartialEq, Eq)]
 pub struct Step {
     pub sent: Option<Outgoing>,
     pub seen: Option<LoadSeen>,
 }
 
 /// What a node sends on a message, and the lock that it is granted by it.
-#[derive(Clone, Copy, Debug, PartialEq, Eq)]
+#[derive(Clone, Copy, PartialEq, Eq)]
 pub struct Received {
     pub sent: Option<Outgoing>,
     pub granted: Option<Grant>,

@@ -9,7 +9,7 @@ use rv_core::Need;
 use word_cache::{Entry, Probe};
 
 /// What a node's cache says of the next instruction.
-#[derive(Clone, Copy, Debug)]
+#[derive(Clone, Copy)]
 pub(crate) enum Outlook {
     /// It may come.
     Goes,

@@ -1,11 +1,14 @@
-ghost use Rattle.std.specs.Prelude.{◌≡◌, ◌↔◌, ℕ, true, false, None, IfSome, ◌&&◌};
+ghost use Rattle.std.specs.Prelude.{◌≡◌, ◌↔◌, ℕ, true, false, None, Some, IfSome, ◌&&◌};
+ghost use Rattle.rv_core.specs.declared.need.Need.TheVariants.{Local as NeedsNothing};
 ghost use Rattle.word_cache.specs.Cache.{may_go};
 ghost use Rattle.registration_protocol.specs.Fit.{IsContext, Fits};
 ghost use Rattle.registration_protocol.specs.Node.{need_now, entry_of, is_active, waits_for_nothing};
-ghost use Rattle.registration_protocol.specs.OwnEvents.{wanted_by, makes_room, may_evict, may_arrive, evicted, victim_for, eviction, arrival, own_event, IsStill, shown_by, end_of};
+ghost use Rattle.registration_protocol.specs.OwnEvents.{lets, wanted_by, makes_room, may_evict, may_arrive, evicted, victim_for, eviction, arrival, own_event, IsStill, shown_by, end_of};
+ghost use Rattle.registration_protocol.specs.Outlook.{is_clear, lacked};
 ghost use Rattle.registration_protocol.specs.Setting.{setting};
 
 use crate::node::{Node, NodeWait};
+use crate::outlook::Outlook;
 use crate::setting::Context;
 use dn_base::{WordId, remainder};
 use message_net::{Event, Outgoing};
@@ -84,6 +87,32 @@ impl Node {
         self.give_up(context, word)
     }
 
+    /// Whether the node's task goes on, and its next instruction needs nothing besides the task's own registers.
+    #[inline(always)]
+    fn computes(&self, context: &Context<'_>) -> bool
+        requires { Fits (setting context.now) self.now }
+        ensures { result ≡ true → need_now (setting context.now) self.now ≡ Some NeedsNothing }
+    {
+        match &self.task {
+            Some(task) if task.end.is_none() => context.decoded.computes(task, context.fuel),
+            _ => false,
+        }
+    }
+
+    /// The outlook for the node's next instruction. Most instructions need nothing; that is found without the task's declaration.
+    #[inline(always)]
+    fn outlook_now(&self, context: &Context<'_>) -> Outlook
+        requires { Fits (setting context.now) self.now }
+        ensures goes { is_clear result ≡ lets self.now (need_now (setting context.now) self.now) }
+        ensures lacked { lacked result ≡ wanted_by self.now (need_now (setting context.now) self.now) }
+    {
+        if self.computes(context) {
+            Outlook::Goes
+        } else {
+            self.outlook(self.need(context))
+        }
+    }
+
     /// The cache's victim for the wanted word, if there is one.
     #[inline(always)]
     fn victim(&self, wanted: Option<WordId>) -> Option<WordId>
@@ -136,8 +165,12 @@ impl Node {
         // None exactly if none of its own events may come
         ensures none { (result ≡ None) ↔ IsStill (setting context.now) self.now }
     {
-        let outlook = self.outlook(self.need(context));
-        if self.is_ready() && outlook.is_clear() {
+        // A node that waits for a value or a lock makes neither an instruction nor an eviction.
+        if !self.is_ready() {
+            return self.arrival();
+        }
+        let outlook = self.outlook_now(context);
+        if outlook.is_clear() {
             return Some(Event::Instr(self.core));
         }
         match self.eviction(context, outlook.lacked()) {

@@ -4,3 +4,4 @@ pub mod Looks
 pub mod DecodedLemmas
 pub mod HeldLemmas
 pub mod Completions
+mod Computing

@@ -1,7 +1,9 @@
-ghost use Rattle.std.specs.Prelude.{◌≡◌, ◌↔◌, ◌≤◌, None, length, option_copied, IfOk};
+ghost use Rattle.std.specs.Prelude.{◌≡◌, ◌↔◌, ◌≤◌, true, false, None, length, option_copied, IfOk};
+ghost use Rattle.region_table.specs.declared.declared.TaskDecl.{TaskDecl as ATask};
 ghost use Rattle.rv_core.specs.Decoded.{found_at, IsDecoded};
 ghost use Rattle.rv_core.specs.Kinds.{Allowed, EndsByFuel, IsAdvance, IsLoad, IsStore};
 ghost use Rattle.rv_core.specs.Need.{need_of};
+ghost use Rattle.rv_core.specs.declared.need.Need.TheVariants.{Local as NeedsNothing};
 ghost use Rattle.rv_core.specs.Next.{IsNextOf};
 ghost use Rattle.rv_core.specs.Step.{instr_at, advanced, loaded_of, merged_of};
 
@@ -15,7 +17,7 @@ use std::alloc::Global;
 use std::marker::Model;
 
 /// The instructions of a program's code words, each decoded once.
-#[derive(Debug, Drop)]
+#[derive(Drop)]
 pub struct DecodedCode {
     instrs: Vec<Option<Instr>>,
 }
@@ -98,7 +100,7 @@ impl TaskState {
 /// A program with its code words decoded, for a caller that owns it and runs it instruction by instruction.
 ///
 /// Contracts see only the program. The decoded code of every `DecodedProgram` is the program's.
-#[derive(Debug, Drop)]
+#[derive(Drop)]
 pub struct DecodedProgram {
     program: Program,
     code: DecodedCode,
@@ -183,6 +185,38 @@ impl DecodedProgram {
         match self.instr(state) {
             Some(instr) if state.retired != fuel => instruction(&self.program, task, state, instr),
             _ => state.need(&self.program, task, fuel),
+        }
+    }
+
+    /// Whether the next instruction of a task needs nothing besides the task's own registers: `compute` would complete it then. The
+    /// task must not have ended. Takes no memory.
+    // Out of line, as `compute`.
+    #[inline(never)]
+    pub fn computes(&self, state: &TaskState, fuel: u32) -> bool
+        requires { state.now.end ≡ None }
+        ensures { (d : ATask) → (result ≡ true) ↔ (need_of self.now d fuel state.now ≡ NeedsNothing) }
+    {
+        match self.instr(state) {
+            Some(instr) if state.retired != fuel => state.computes_by(instr),
+            _ => false,
+        }
+    }
+
+    /// Completes the next instruction of a task, if it needs nothing besides the task's own registers. Otherwise it does nothing.
+    /// Returns whether it completed one. So a caller needn't ask for the need of such an instruction, nor for the task's declaration,
+    /// on which such a need doesn't depend. The task must not have ended. Takes no memory.
+    // Out of line, so that the callers stay short: they are inlined where each event comes.
+    #[inline(never)]
+    pub fn compute(&self, state: &mut TaskState, fuel: u32) -> bool
+        requires open { state.old.end ≡ None }
+        requires retired { state.old.retired ≤ fuel }
+        ensures local { (d : ATask) → (result ≡ true) ↔ (need_of self.now d fuel state.old ≡ NeedsNothing) }
+        ensures done { result ≡ true → state.new ≡ advanced self.now state.old }
+        ensures left { result ≡ false → state.new ≡ state.old }
+    {
+        match self.instr(state) {
+            Some(instr) if state.retired != fuel => state.compute_by(instr),
+            _ => false,
         }
     }
 

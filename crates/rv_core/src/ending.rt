@@ -40,7 +40,7 @@ pub struct TaskEnd {
 }
 
 /// How a run ended: its outcome, the tasks that started in the order of their phases and cores, and the data words at the end.
-#[derive(Debug, Drop)]
+#[derive(Drop)]
 pub struct Ending {
     pub outcome: Outcome,
     pub tasks: Sequence<TaskEnd>,

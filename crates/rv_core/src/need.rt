@@ -14,7 +14,7 @@ use region_table::{Program, TaskDecl};
 use rv_isa::{Instr, Reg, Width, decode, taken};
 
 /// What a task's next instruction needs before it can retire.
-#[derive(Clone, Copy, Debug, PartialEq, Eq)]
+#[derive(Clone, Copy, PartialEq, Eq)]
 pub enum Need {
     /// Nothing besides the task's own registers.
     Local,
@@ -32,7 +32,7 @@ pub enum Need {
 
 /// What a task's next instruction needs, and the instruction itself. So `TaskState::complete`, `complete_load` and `merged_by`
 /// needn't look for it again.
-#[derive(Clone, Copy, Debug, PartialEq, Eq)]
+#[derive(Clone, Copy, PartialEq, Eq)]
 pub struct Next {
     pub need: Need,
     /// None if the task ends before it reaches an instruction: it is out of fuel, or there is no instruction at its pc.

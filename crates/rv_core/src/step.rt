@@ -1,8 +1,11 @@
-ghost use Rattle.std.specs.Prelude.{◌≡◌, ◌+◌, ◌<◌, ◌≤◌, Some, None, length, slice_index, if◌then◌else◌};
+ghost use Rattle.std.specs.Prelude.{◌≡◌, ◌≢◌, ◌↔◌, ◌+◌, ◌%◌, ◌<◌, ◌≤◌, true, false, Some, None, length, slice_index, if◌then◌else◌};
+ghost use Rattle.region_table.specs.Program.{ProgramParts};
+ghost use Rattle.region_table.specs.declared.declared.TaskDecl.{TaskDecl as ATask};
 ghost use Rattle.rv_isa.specs.Meaning.{taken_of};
-ghost use Rattle.rv_isa.specs.declared.instr.Instr.TheVariants.{Ecall};
+ghost use Rattle.rv_isa.specs.declared.instr.Instr.TheVariants.{Ecall, Branch as ABranch};
 ghost use Rattle.rv_core.specs.Registers.{value_in};
-ghost use Rattle.rv_core.specs.Need.{need_of, jump_target};
+ghost use Rattle.rv_core.specs.Need.{need_of, instr_need, jump_target};
+ghost use Rattle.rv_core.specs.declared.need.Need.TheVariants.{Local as NeedsNothing};
 ghost use Rattle.rv_core.specs.Step.{instr_at, next_pc, with_result, jumped_to, after_call, after_instr, after_load, after_store, advanced, loaded_of, merged_of};
 ghost use Rattle.rv_core.specs.Kinds.{IsLoad, IsStore, IsAdvance, IsAligned, KeepsOthers};
 ghost use Rattle.rv_core.specs.Next.{IsNextOf};
@@ -121,6 +124,114 @@ impl TaskState {
             Instr::Store { .. } | Instr::Fence => self.go(next),
             Instr::Ecall => self.call(),
             Instr::Load { .. } | Instr::Ebreak => {}
+        }
+    }
+
+    /// The instruction retires as a jump to this address, if that is a multiple of 4, and writes a register. Returns whether it did.
+    #[inline(always)]
+    fn leap(&mut self, rd: Reg, value: u32, pc: u32) -> bool
+        requires { self.old.retired < 4294967295 }
+        ensures goes { result ≡ true → (pc % 4 ≡ 0) × (self.new ≡ with_result self.old rd value pc) }
+        ensures stays { result ≡ false → (pc % 4 ≢ 0) × (self.new ≡ self.old) }
+    {
+        if pc % 4 != 0 {
+            return false;
+        }
+        self.retire(rd, value, pc);
+        true
+    }
+
+    /// The instruction retires: the value goes to the register, and the task goes on behind the instruction. Returns true.
+    #[inline(always)]
+    fn put(&mut self, rd: Reg, value: u32) -> bool
+        requires { self.old.retired < 4294967295 }
+        ensures state { self.new ≡ with_result self.old rd value (next_pc self.old) }
+        ensures done { result ≡ true }
+    {
+        let next = self.behind();
+        self.retire(rd, value, next);
+        true
+    }
+
+    /// Completes a branch, unless it goes to an address that is no multiple of 4. Returns whether it did.
+    #[inline(always)]
+    fn branch_by(&mut self, cond: Cond, a: Reg, b: Reg, offset: i32) -> bool
+        requires { self.old.retired < 4294967295 }
+        ensures local { (P : ProgramParts) (d : ATask) → (result ≡ true) ↔ (instr_need P d self.old (ABranch cond a b offset) ≡ NeedsNothing) }
+        ensures done { result ≡ true → self.new ≡ after_instr self.old (ABranch cond a b offset) }
+        ensures left { result ≡ false → self.new ≡ self.old }
+    {
+        let goes = taken(cond, read(&self.regs, a), read(&self.regs, b));
+        let to = if goes {
+            target(self, offset)
+        } else {
+            self.behind()
+        };
+        if goes && to % 4 != 0 {
+            return false;
+        }
+        self.go(to);
+        true
+    }
+
+    /// Whether an instruction needs nothing besides the task's registers.
+    #[inline(always)]
+    pub(crate) fn computes_by(&self, instr: &Instr) -> bool
+        ensures { (P : ProgramParts) (d : ATask) → (result ≡ true) ↔ (instr_need P d self.now instr.now ≡ NeedsNothing) }
+    {
+        match *instr {
+            Instr::Jal { rd: _, offset } => target(self, offset) % 4 == 0,
+            Instr::Jalr {
+                rd: _,
+                base,
+                offset,
+            } => register_jump(self, base, offset) % 4 == 0,
+            Instr::Branch { cond, a, b, offset } => {
+                target(self, offset) % 4 == 0
+                    || !taken(cond, read(&self.regs, a), read(&self.regs, b))
+            }
+            Instr::Load { .. } | Instr::Store { .. } | Instr::Ecall | Instr::Ebreak => false,
+            Instr::Lui { .. }
+            | Instr::Auipc { .. }
+            | Instr::OpImm { .. }
+            | Instr::Op { .. }
+            | Instr::Fence => true,
+        }
+    }
+
+    /// Completes an instruction that needs nothing besides the task's registers, and leaves any other. Returns whether it did.
+    #[inline(always)]
+    pub(crate) fn compute_by(&mut self, instr: &Instr) -> bool
+        requires { self.old.retired < 4294967295 }
+        ensures local { (P : ProgramParts) (d : ATask) → (result ≡ true) ↔ (instr_need P d self.old instr.now ≡ NeedsNothing) }
+        ensures done { result ≡ true → self.new ≡ after_instr self.old instr.now }
+        ensures left { result ≡ false → self.new ≡ self.old }
+    {
+        match *instr {
+            Instr::Jal { rd, offset } => self.leap(rd, self.behind(), target(self, offset)),
+            Instr::Jalr { rd, base, offset } => {
+                self.leap(rd, self.behind(), register_jump(self, base, offset))
+            }
+            Instr::Branch { cond, a, b, offset } => self.branch_by(cond, a, b, offset),
+            Instr::Load { .. } | Instr::Store { .. } | Instr::Ecall | Instr::Ebreak => false,
+            Instr::Lui { rd, imm } => self.put(rd, imm.wrapping_mul(4096)),
+            Instr::Auipc { rd, imm } => {
+                self.put(rd, self.pc.wrapping_add(imm.wrapping_mul(4096)))
+            }
+            Instr::OpImm { op, rd, a, imm } => {
+                let left = read(&self.regs, a);
+                self.put(rd, alu(op, left, imm.cast_unsigned()))
+            }
+            Instr::Op { op, rd, a, b } => {
+                let left = read(&self.regs, a);
+                let right = read(&self.regs, b);
+                self.put(rd, alu(op, left, right))
+            }
+            Instr::Fence => {
+                let next = self.behind();
+                self.go(next);
+                true
+            }
         }
     }
 

@@ -43,7 +43,7 @@ pub enum End {
 }
 
 /// The state of one task.
-#[derive(Clone, Copy, Debug, PartialEq, Eq)]
+#[derive(Clone, Copy, PartialEq, Eq)]
 pub struct TaskState {
     /// The values of x0 to x31. The first stays 0.
     pub regs: [u32; 32],
