@@ -1,5 +1,5 @@
 /// What the program does with a text (this project's profile).
-#[derive(Clone, Copy, Debug, PartialEq, Eq)]
+#[derive(Clone, Copy)]
 pub enum Mode {
     /// Runs the program of the text on the cores. Prints its answer, the grants of locks and the counts of events.
     Run,
@@ -22,7 +22,7 @@ pub enum Mode {
 }
 
 /// What the command words ask for. A mode ignores the options that it has no use for.
-#[derive(Clone, Copy, Debug, PartialEq, Eq)]
+#[derive(Clone, Copy)]
 pub struct Options {
     pub mode: Mode,
     /// The seed of the generators that pick events. With more than one worker it doesn't fix the order of events.

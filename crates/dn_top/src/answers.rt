@@ -3,9 +3,10 @@ ghost use Rattle.region_table.specs.Program.{names_of};
 ghost use Rattle.rv_assembler.specs.Names.{AreDeclaredNames};
 ghost use Rattle.run_report.specs.Summary.{checked_of as counts_of};
 ghost use Rattle.command_words.specs.Command.{OptionsInRange};
-ghost use Rattle.dn_top.specs.Runs.{with_one_worker};
+ghost use Rattle.dn_top.specs.Runs.{with_one_worker, reported, summed_up, IsPrintedRun, IsTimedRun};
 ghost use Rattle.dn_top.specs.Answers.{IsAnswer, IsFlatRun, IsListing, IsOutputOf, IsProof, answered, done_in, refused_in};
-ghost use Rattle.front_end.specs.Texts.{IsStop};
+ghost use Rattle.dn_top.specs.Documents.{IsTracedRun};
+ghost use Rattle.front_end.specs.Texts.{HasChecked, HasProgram, IsNoProgram, IsStop, IsUnfit};
 
 use crate::documents::{replay_document, trace_run};
 use crate::output::{Output, ended};
@@ -60,6 +61,84 @@ fn prove_effects(alloc: Global, checked: &Checked) -> Result<Output, Memory>
     Ok(ended(Outcome::Done, prove_text(alloc, &proved)?))
 }
 
+/// Counts what the program of a text has.
+fn count_text(alloc: Global, text: &[u8]) -> Result<Output, Stop>
+    ensures done { IfOk result (λ out. HasChecked text.now (λ P. out ≡ answered Status.Done (counts_of P))) }
+    ensures stop { IfErr result (IsStop (IsUnfit text.now)) }
+{
+    let checked = checked_of(alloc, text)?;
+    Ok(count(alloc, checked.program())?)
+}
+
+/// Lists the program of a text.
+fn list_text(alloc: Global, text: &[u8]) -> Result<Output, Stop>
+    ensures done { IfOk result (λ out. HasProgram text.now (λ P. IsListing P out)) }
+    ensures stop { IfErr result (IsStop (IsNoProgram text.now)) }
+{
+    let program = program_of(alloc, text)?;
+    Ok(list(alloc, &program)?)
+}
+
+/// Runs the program of a text on one flat memory.
+fn run_flat_text(alloc: Global, fuel: u32, text: &[u8]) -> Result<Output, Stop>
+    requires least { 1 ≤ fuel }
+    requires most { fuel ≤ 32768 }
+    ensures done { IfOk result (λ out. HasChecked text.now (λ P. IsFlatRun P fuel out)) }
+    ensures stop { IfErr result (IsStop (IsUnfit text.now)) }
+{
+    let checked = checked_of(alloc, text)?;
+    Ok(run_flat(alloc, fuel, &checked)?)
+}
+
+/// Says of the program of a text whether some run of it may access a word outside its declared effects.
+fn prove_text_effects(alloc: Global, text: &[u8]) -> Result<Output, Stop>
+    ensures done { IfOk result (λ out. HasChecked text.now (λ P. IsProof P out)) }
+    ensures stop { IfErr result (IsStop (IsUnfit text.now)) }
+{
+    let checked = checked_of(alloc, text)?;
+    Ok(prove_effects(alloc, &checked)?)
+}
+
+/// Runs the program of a text on this thread alone, and reports the run.
+fn report_alone(alloc: Global, options: &Options, text: &[u8]) -> Result<Output, Stop>
+    requires { OptionsInRange options.now }
+    ensures done { IfOk result (λ out. HasChecked text.now (λ P. IsPrintedRun P (with_one_worker options.now) reported out)) }
+    ensures stop { IfErr result (IsStop (IsUnfit text.now)) }
+{
+    let run = run_alone(alloc, options, text)?;
+    Ok(report_run(alloc, run)?)
+}
+
+/// Runs the program of a text on this thread alone, and sums the run up.
+fn sum_up_alone(alloc: Global, options: &Options, text: &[u8]) -> Result<Output, Stop>
+    requires { OptionsInRange options.now }
+    ensures done { IfOk result (λ out. HasChecked text.now (λ P. IsPrintedRun P (with_one_worker options.now) summed_up out)) }
+    ensures stop { IfErr result (IsStop (IsUnfit text.now)) }
+{
+    let run = run_alone(alloc, options, text)?;
+    Ok(sum_up_run(alloc, run)?)
+}
+
+/// Runs the program of a text on this thread alone, and writes the document of the run.
+fn trace_alone(alloc: Global, options: &Options, text: &[u8]) -> Result<Output, Stop>
+    requires { OptionsInRange options.now }
+    ensures done { IfOk result (λ out. HasChecked text.now (λ P. IsTracedRun P (with_one_worker options.now) text.now out)) }
+    ensures stop { IfErr result (IsStop (IsUnfit text.now)) }
+{
+    let run = run_alone(alloc, options, text)?;
+    Ok(trace_run(alloc, options, text, run)?)
+}
+
+/// Runs the program of a text on this thread alone, and times the run.
+fn time_alone(alloc: Global, options: &Options, text: &[u8]) -> Result<Output, Stop>
+    requires { OptionsInRange options.now }
+    ensures done { IfOk result (λ out. HasChecked text.now (λ P. IsTimedRun P (with_one_worker options.now) out)) }
+    ensures stop { IfErr result (IsStop (IsUnfit text.now)) }
+{
+    let run = run_alone(alloc, options, text)?;
+    time_text_run(alloc, options, text, run)
+}
+
 /// What each mode does with a text, on this thread alone.
 fn done_alone(alloc: Global, options: &Options, text: &[u8]) -> Result<Output, Stop>
     requires { OptionsInRange options.now }
@@ -67,22 +146,84 @@ fn done_alone(alloc: Global, options: &Options, text: &[u8]) -> Result<Output, S
     ensures stop { IfErr result (IsStop (refused_in options.now.mode text.now)) }
 {
     match options.mode {
-        Mode::Run => Ok(report_run(alloc, run_alone(alloc, options, text)?)?),
-        Mode::Work => Ok(sum_up_run(alloc, run_alone(alloc, options, text)?)?),
-        Mode::Check => Ok(count(alloc, checked_of(alloc, text)?.program())?),
-        Mode::List => Ok(list(alloc, &program_of(alloc, text)?)?),
-        Mode::Flat => Ok(run_flat(alloc, options.fuel, &checked_of(alloc, text)?)?),
-        Mode::Trace => {
-            let run = run_alone(alloc, options, text)?;
-            Ok(trace_run(alloc, options, text, run)?)
-        }
+        Mode::Run => report_alone(alloc, options, text),
+        Mode::Work => sum_up_alone(alloc, options, text),
+        Mode::Check => count_text(alloc, text),
+        Mode::List => list_text(alloc, text),
+        Mode::Flat => run_flat_text(alloc, options.fuel, text),
+        Mode::Trace => trace_alone(alloc, options, text),
         Mode::Replay => replay_document(alloc, text),
-        Mode::Time => {
-            let run = run_alone(alloc, options, text)?;
-            time_text_run(alloc, options, text, run)
-        }
-        Mode::Prove => Ok(prove_effects(alloc, &checked_of(alloc, text)?)?),
+        Mode::Time => time_alone(alloc, options, text),
+        Mode::Prove => prove_text_effects(alloc, text),
     }
+}
+
+/// Runs the program of a text by several workers, and reports the run.
+fn report_by_workers<R: Threads + Wait + Sync, G: Gate + Sync>(
+    rt: &R,
+    alloc: Global,
+    options: &Options,
+    text: &[u8],
+    gate: &G,
+) -> Result<Output, Stop>
+    requires limits { OptionsInRange options.now }
+    requires several { options.now.workers ≢ 1 }
+    ensures done { IfOk result (λ out. HasChecked text.now (λ P. IsPrintedRun P options.now reported out)) }
+    ensures stop { IfErr result (IsStop (IsUnfit text.now)) }
+{
+    let run = run_by_workers(rt, alloc, options, text, gate)?;
+    Ok(report_run(alloc, run)?)
+}
+
+/// Runs the program of a text by several workers, and sums the run up.
+fn sum_up_by_workers<R: Threads + Wait + Sync, G: Gate + Sync>(
+    rt: &R,
+    alloc: Global,
+    options: &Options,
+    text: &[u8],
+    gate: &G,
+) -> Result<Output, Stop>
+    requires limits { OptionsInRange options.now }
+    requires several { options.now.workers ≢ 1 }
+    ensures done { IfOk result (λ out. HasChecked text.now (λ P. IsPrintedRun P options.now summed_up out)) }
+    ensures stop { IfErr result (IsStop (IsUnfit text.now)) }
+{
+    let run = run_by_workers(rt, alloc, options, text, gate)?;
+    Ok(sum_up_run(alloc, run)?)
+}
+
+/// Runs the program of a text by several workers, and writes the document of the run.
+fn trace_by_workers<R: Threads + Wait + Sync, G: Gate + Sync>(
+    rt: &R,
+    alloc: Global,
+    options: &Options,
+    text: &[u8],
+    gate: &G,
+) -> Result<Output, Stop>
+    requires limits { OptionsInRange options.now }
+    requires several { options.now.workers ≢ 1 }
+    ensures done { IfOk result (λ out. HasChecked text.now (λ P. IsTracedRun P options.now text.now out)) }
+    ensures stop { IfErr result (IsStop (IsUnfit text.now)) }
+{
+    let run = run_by_workers(rt, alloc, options, text, gate)?;
+    Ok(trace_run(alloc, options, text, run)?)
+}
+
+/// Runs the program of a text by several workers, and times the run.
+fn time_by_workers<R: Threads + Wait + Sync, G: Gate + Sync>(
+    rt: &R,
+    alloc: Global,
+    options: &Options,
+    text: &[u8],
+    gate: &G,
+) -> Result<Output, Stop>
+    requires limits { OptionsInRange options.now }
+    requires several { options.now.workers ≢ 1 }
+    ensures done { IfOk result (λ out. HasChecked text.now (λ P. IsTimedRun P options.now out)) }
+    ensures stop { IfErr result (IsStop (IsUnfit text.now)) }
+{
+    let run = run_by_workers(rt, alloc, options, text, gate)?;
+    time_text_run(alloc, options, text, run)
 }
 
 /// What each mode does with a text if several workers are asked for: these make the run in the modes that pick events.
@@ -99,16 +240,10 @@ fn done_by_workers<R: Threads + Wait + Sync, G: Gate + Sync>(
     ensures stop { IfErr result (IsStop (refused_in options.now.mode text.now)) }
 {
     match options.mode {
-        Mode::Run => Ok(report_run(alloc, run_by_workers(rt, alloc, options, text, gate)?)?),
-        Mode::Work => Ok(sum_up_run(alloc, run_by_workers(rt, alloc, options, text, gate)?)?),
-        Mode::Trace => {
-            let run = run_by_workers(rt, alloc, options, text, gate)?;
-            Ok(trace_run(alloc, options, text, run)?)
-        }
-        Mode::Time => {
-            let run = run_by_workers(rt, alloc, options, text, gate)?;
-            time_text_run(alloc, options, text, run)
-        }
+        Mode::Run => report_by_workers(rt, alloc, options, text, gate),
+        Mode::Work => sum_up_by_workers(rt, alloc, options, text, gate),
+        Mode::Trace => trace_by_workers(rt, alloc, options, text, gate),
+        Mode::Time => time_by_workers(rt, alloc, options, text, gate),
         Mode::Check | Mode::List | Mode::Flat | Mode::Replay | Mode::Prove => {
             done_alone(alloc, options, text)
         }

@@ -6,7 +6,7 @@ use dn_base::{Outcome, Sequence, Status};
 use dn_machine::RunRecord;
 
 /// A status, all bytes that are to be written, and the run of the multicore machine, if there was one.
-#[derive(Debug, Drop)]
+#[derive(Drop)]
 pub struct Output {
     pub status: Status,
     pub bytes: Sequence<u8>,

@@ -19,7 +19,7 @@ use std::sync::Wait;
 use std::thread::Threads;
 
 /// The answer of the program, besides what it writes.
-#[derive(Debug, Drop)]
+#[derive(Drop)]
 pub struct Answer {
     /// How it ended.
     pub status: Status,

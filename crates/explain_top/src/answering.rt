@@ -7,7 +7,7 @@ use std::alloc::Global;
 use text_pieces::{push, push_long};
 
 /// A status, and all bytes that are to be written.
-#[derive(Debug, Drop)]
+#[derive(Drop)]
 pub struct Output {
     pub status: Status,
     pub bytes: Sequence<u8>,

@@ -33,7 +33,7 @@ const FUEL: u32 = 100;
 const MOST_STEPS: u32 = 1000;
 
 /// Why there is no machine.
-#[derive(Clone, Copy, Debug, PartialEq, Eq)]
+#[derive(Clone, Copy)]
 enum Stop {
     /// The text isn't of the language: the fault names its line.
     Source(SourceFault),
@@ -128,9 +128,9 @@ fn show_run<R: Print>(rt: &R, alloc: Global, seed: u32) -> io::Result<()> {
 }
 
 /// Steps a machine until no event may come, and prints each event with the value of the data word after it.
-fn show_steps<R: Print>(rt: &R, alloc: Global, mut machine: Machine) -> io::Result<()> {
+fn show_steps<R: Print>(rt: &R, alloc: Global, machine: &mut Machine) -> io::Result<()> {
     for number in 0..MOST_STEPS {
-        let Ok(came) = step(&mut machine) else {
+        let Ok(came) = step(machine) else {
             return refuse(rt, Stop::Memory);
         };
         let Some(kind) = came else {
@@ -140,7 +140,7 @@ fn show_steps<R: Print>(rt: &R, alloc: Global, mut machine: Machine) -> io::Resu
         let value = machine.word(WordId(0));
         println!(rt; "event {number}: {name}, word 0 is {value}")?;
     }
-    show_end(rt, &machine)
+    show_end(rt, machine)
 }
 
 /// Prints how many instructions the task of core 0 retired.
@@ -161,7 +161,7 @@ fn show_machine<R: Print>(rt: &R, alloc: Global) -> io::Result<()> {
         Err(stop) => return refuse(rt, stop),
     };
     match machine_of(alloc, checked) {
-        Ok(machine) => show_steps(rt, alloc, machine),
+        Ok(mut machine) => show_steps(rt, alloc, &mut machine),
         Err(memory) => refuse(rt, memory.into()),
     }
 }

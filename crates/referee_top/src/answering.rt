@@ -19,7 +19,7 @@ use front_end::{Stop, checked_of};
 use std::alloc::Global;
 
 /// A status, and all bytes that are to be written.
-#[derive(Debug, Drop)]
+#[derive(Drop)]
 pub struct Reply {
     pub status: RefereeStatus,
     pub bytes: Sequence<u8>,

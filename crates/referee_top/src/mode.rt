@@ -1,5 +1,5 @@
 /// What the referee does with a document.
-#[derive(Clone, Copy, Debug, PartialEq, Eq)]
+#[derive(Clone, Copy)]
 pub enum RefereeMode {
     /// Takes a claim, and says whether it agrees, or where it first differs.
     Judge,

@@ -2,7 +2,7 @@ ghost use Rattle.std.specs.Prelude.{◌≡◌};
 ghost use Rattle.referee_top.specs.Status.{referee_code};
 
 /// How the referee ended, as its exit code tells it.
-#[derive(Clone, Copy, Debug, PartialEq, Eq)]
+#[derive(Clone, Copy)]
 pub enum RefereeStatus {
     /// The claim agrees, or a claim that agrees was printed.
     Agrees = 0,

@@ -1,23 +1,26 @@
--- The account of a run's events.
-use Rattle.std.proofs.Common.{◌≡◌, ℕ, List, ap, subst, ◌∙◌}
-use Rattle.dn_base.specs.declared.ids.Shape.{Shape}
+-- The account of a document's run.
+use Rattle.std.proofs.Common.{◌≡◌, ◌++◌, List, ℕ, Result, Ok, Err, IfOk, ap, ◌∙◌}
 use Rattle.region_table.specs.Program.{ProgramParts}
-use Rattle.message_net.specs.declared.event.Event.{Event}
-use Rattle.machine_rules.specs.State.{State, initial_state}
-use Rattle.dn_machine.specs.Kept.{Made, IsKept, IsInitialMachine}
-use Rattle.run_timing.proofs.Started.{setting-of}
-use Rattle.account_table.specs.declared.item.Grouping.{Grouping}
-use Rattle.run_account.specs.Account.{Accounted, account_of_run, no_account}
-use Rattle.view_top.specs.Answers.{IsAccountOf}
+use Rattle.rv_assembler.specs.Source.{source}
+use Rattle.account_table.specs.Tallies.{Tallies}
+use Rattle.account_text.specs.declared.form.Form.{Form}
+use Rattle.account_text.specs.Forms.{account_text}
+use Rattle.dn_top.specs.Documents.{shape_told}
+use Rattle.view_top.specs.declared.answering.Output.{Output}
+use Rattle.view_top.specs.declared.documents.KeptRun.{KeptRun}
+use Rattle.view_words.specs.declared.options.AccountOptions.{AccountOptions}
+use Rattle.view_top.specs.Answers.{heading_of, made, IsAccount, IsAccountOf}
+use Rattle.view_top.specs.Kept.{OfProgram}
+use Rattle.view_top.proofs.Kept.{of-program}
 
--- what is counted from the opened machine on is the account of the run
-pub account-of : (P : ProgramParts) (shape machine : Shape) (fuel : ℕ) (m : Made) (events : List Event) (by : Grouping) (account : Accounted) → shape ≡ machine → IsInitialMachine P shape fuel m
-    → IsKept m.state m.made → account ≡ account_of_run m.state (no_account m.state.setting by) events → IsAccountOf P machine fuel events by account.tallies
-account-of P shape machine fuel m events by account same opens kept is =
-    let from : account ≡ account_of_run (initial_state m.state.setting) (no_account m.state.setting by) events =
-    is ∙ ap (λ (S : State). account_of_run S (no_account m.state.setting by) events) opens.state
-    in
-    let there : IsAccountOf P shape fuel events by account.tallies =
-    record { setting = m.state.setting; setting_is = setting-of P shape fuel m opens kept; is = ap (λ (a : Accounted). a.tallies) from }
-    in
-    subst (λ (x : Shape). IsAccountOf P x fuel events by account.tallies) same there
+-- the numbers have the names of the text's program
+pub printed-is : (k : KeptRun) (form : Form) (tallies table : Tallies) (slice : List ℕ) (Q program : ProgramParts) (head text : List ℕ) (out : Output) → slice ≡ k.text → source slice ≡ Ok Q → program ≡ Q → table ≡ tallies
+    → head ≡ heading_of form k.run → text ≡ head ++ account_text form program table → out ≡ made text → OfProgram k.text (λ P. out ≡ made (heading_of form k.run ++ account_text form P tallies))
+printed-is k form tallies table slice Q program head text out same is one counted begins told answer =
+    let whole : head ++ account_text form program table ≡ heading_of form k.run ++ account_text form Q tallies = cc in
+    of-program k.text slice Q (λ (P : ProgramParts). out ≡ made (heading_of form k.run ++ account_text form P tallies)) same is (answer ∙ ap made (told ∙ whole))
+
+pub account-is : {E : Type 0} (k : KeptRun) (o : AccountOptions) (tallies : Tallies) (r : Result Output E) → OfProgram k.text (λ P. IsAccountOf P (shape_told P k.sizes) k.sizes.fuel k.run.events o.by tallies)
+    → IfOk r (λ out. OfProgram k.text (λ P. out ≡ made (heading_of o.form k.run ++ account_text o.form P tallies))) → IfOk r (λ out. OfProgram k.text (λ P. IsAccount P k.sizes o k.run out))
+account-is k o tallies (Err e) counted printed = tt
+account-is k o tallies (Ok out) counted printed = λ P there. record { tallies = tallies; counted = counted P there; answer = printed P there }

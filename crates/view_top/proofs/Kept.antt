@@ -1,10 +1,9 @@
 -- The program and the run of a document, and what is made of them.
-use Rattle.std.proofs.Common.{◌≡◌, inr, ℕ, ◌≤◌, List, length, Result, Ok, Err, IfErr, refl, sym, ap, subst, ◌∙◌}
-use Rattle.std.specs.Result.{IsErrAnd}
+use Rattle.std.proofs.Common.{◌≡◌, inr, ℕ, ◌≤◌, List, length, Result, Ok, Err, IfOk, IfErr, sym, ap, subst, ◌∙◌}
+use Rattle.dn_base.specs.declared.ids.Shape.{Shape}
 use Rattle.region_table.specs.Program.{ProgramParts}
 use Rattle.rv_assembler.specs.Source.{source}
 use Rattle.text_places.specs.declared.places.Located.{Located}
-use Rattle.text_places.specs.Places.{text_places}
 use Rattle.effect_checker.specs.Checked.{IsChecked}
 use Rattle.message_net.specs.declared.event.Event.{Event}
 use Rattle.registration_protocol.specs.Node.{Setting}
@@ -23,9 +22,9 @@ use Rattle.dn_top.specs.Documents.{shape_told, HasTrace, IsNoRun, IsRunTold}
 use Rattle.dn_top.specs.Runs.{IsPrintable}
 use Rattle.view_top.specs.declared.answering.Output.{Output}
 use Rattle.view_top.specs.declared.documents.KeptRun.{KeptRun}
-use Rattle.view_top.specs.declared.options.StateOptions.{StateOptions}
+use Rattle.view_words.specs.declared.options.StateOptions.{StateOptions}
 use Rattle.view_top.specs.Answers.{located, HasKeptRun, IsStateShown}
-use Rattle.view_top.specs.Kept.{kept_run_of, IsViewable}
+use Rattle.view_top.specs.Kept.{kept_run_of, IsKeptRun, IsViewable, OfProgram}
 
 -- the events of a document's run are a run of its machine
 run-on : (P : ProgramParts) (t : Trace) (r : RunRecord) → IsRunTold P t r → IsRunOn P (shape_told P t.shape) t.shape.fuel r.events
@@ -35,60 +34,72 @@ run-on P t r is C told =
     subst (λ (es : List Event). IsRun (initial_state C) es) (sym is.events) run
 
 module _ (document text : List ℕ) (t : Trace) (P : ProgramParts) where
-  -- the places of the text's parts stand beside its program
-  pub is-located : (L : Located) → text ≡ t.text → source text ≡ Ok P → source text ≡ Ok L.program → L.places ≡ text_places text → L ≡ located P t.text
-  is-located L same is third places =
-      let one : L.program ≡ P = cc in
-      let here : L.places ≡ text_places t.text = places ∙ ap text_places same in
-      rw (sym one, sym here) refl
-
-  pub kept-run : (copy : List ℕ) (run : RunRecord) (program again : ProgramParts) (L : Located) → copy ≡ text → IsDocument document t → text ≡ t.text → source text ≡ Ok P → IsChecked P → source text ≡ Ok program → source text ≡ Ok again
-      → L ≡ located P t.text → IsRunTold P t run
-      → HasKeptRun document (λ M x r. ◌≡◌ {A = KeptRun} (record { sizes = t.shape; text = copy; run = run; program = program; again = again; located = L }) (kept_run_of M x r))
-  kept-run copy run program again L copied told same is checked first second here tells =
-      let one : program ≡ P = cc in
-      let other : again ≡ P = cc in
-      let beside : copy ≡ t.text = copied ∙ same in
+  pub kept-run : (r : Result KeptRun Stop) → IsDocument document t → text ≡ t.text → source text ≡ Ok P → IsChecked P → IfOk r (IsKeptRun P t)
+      → IfOk r (λ kept. HasKeptRun document (λ _ x run. kept ≡ kept_run_of x run))
+  kept-run (Err s) told same is checked h = tt
+  kept-run (Ok k) told same is checked h =
       record {
         trace = t;
         is = told;
-        holds = record { program = P; is = ap source (sym same) ∙ is; checked = checked; holds = record { run = run; told = tells; holds = rw (one, other, here, beside) refl } };
+        holds = record { program = P; is = ap source (sym same) ∙ is; checked = checked; holds = record { run = k.run; told = h.told; holds = h.is } };
       }
 
-  pub viewable : (copy : List ℕ) (run : RunRecord) (program again : ProgramParts) (L : Located) → IsDocument document t → source text ≡ Ok P → source text ≡ Ok program → source text ≡ Ok again → source text ≡ Ok L.program → IsRunTold P t run
-      → IsPrintable run → IsViewable (record { sizes = t.shape; text = copy; run = run; program = program; again = again; located = L })
-  viewable copy run program again L told is first second third tells printable =
-      let one : program ≡ P = cc in
-      let same : again ≡ program = cc in
-      let beside : L.program ≡ program = cc in
+  ready : (run : RunRecord) → IsDocument document t → source t.text ≡ Ok P → IsRunTold P t run → IsPrintable run → IsViewable (kept_run_of t run)
+  ready run told is tells printable =
       record {
         sizes = told.told.head.shape;
         few = subst (λ (es : List Event). length es ≤ 25169664) (sym tells.events) told.told.head.count;
-        again = same;
-        located = beside;
-        run = subst (λ (Q : ProgramParts). IsRunOn Q (shape_told Q t.shape) t.shape.fuel run.events) (sym one) (run-on P t run tells);
+        run = λ Q there.
+            let one : P ≡ Q = cc in
+            subst (λ (p : ProgramParts). IsRunOn p (shape_told p t.shape) t.shape.fuel run.events) one (run-on P t run tells);
         printable = printable;
       }
 
-  pub no-run : (s : Stop) → IsDocument document t → text ≡ t.text → source text ≡ Ok P → IsChecked P → IsStop (IsNoRun P t) s → IsStop (IsRefusedDocument document) s
-  no-run Memory told same is checked h = tt
-  no-run (Refused line) told same is checked h =
+  pub viewable : (r : Result KeptRun Stop) → IsDocument document t → text ≡ t.text → source text ≡ Ok P → IfOk r (IsKeptRun P t) → IfOk r IsViewable
+  viewable (Err s) told same is h = tt
+  viewable (Ok k) told same is h = subst IsViewable (sym h.is) (ready k.run told (ap source (sym same) ∙ is) h.told h.printable)
+
+  refused-stop : (s : Stop) → IsDocument document t → text ≡ t.text → source text ≡ Ok P → IsChecked P → IsStop (IsNoRun P t) s → IsStop (IsRefusedDocument document) s
+  refused-stop Memory told same is checked h = tt
+  refused-stop (Refused line) told same is checked h =
       inr (record { trace = t; is = told; holds = inr (record { program = P; is = ap source (sym same) ∙ is; checked = checked; holds = h }) })
+
+  pub no-run : (r : Result KeptRun Stop) → IsDocument document t → text ≡ t.text → source text ≡ Ok P → IsChecked P → IfErr r (IsStop (IsNoRun P t)) → IfErr r (IsStop (IsRefusedDocument document))
+  no-run (Ok k) told same is checked h = tt
+  no-run (Err s) told same is checked h = refused-stop s told same is checked h
 
   -- what is shown of the document's program and events is shown of the document
   pub state-shown : (o : StateOptions) (out : Output) → IsDocument document t → text ≡ t.text → source text ≡ Ok P → IsChecked P → IsStateShown P t o out
       → HasTrace document (λ x. HasChecked x.text (λ Q. IsStateShown Q x o out))
   state-shown o out told same is checked h = record { trace = t; is = told; holds = record { program = P; is = ap source (sym same) ∙ is; checked = checked; holds = h } }
 
--- what is true of a stop is true of a result that hands it on
-pub handed-on : {X : Type 0} (r : Result X Stop) (s : Stop) (Holds : Stop → Type 0) → IsErrAnd r (λ other. other ≡ s) → Holds s → IfErr r Holds
-handed-on (Ok x) s Holds is holds = tt
-handed-on (Err other) s Holds is holds = subst Holds (sym is) holds
+-- what holds of one program of a text holds of its program
+pub of-program : (text slice : List ℕ) (Q : ProgramParts) (Holds : ProgramParts → Type 0) → slice ≡ text → source slice ≡ Ok Q → Holds Q → OfProgram text Holds
+of-program text slice Q Holds same is holds P there =
+    let one : Q ≡ P = cc in
+    subst Holds one holds
+
+module _ (k : KeptRun) (slice : List ℕ) (Q : ProgramParts) (shape : Shape) where
+  -- the run of a kept run, for the program that was assembled from its text
+  pub run-of-kept : (events : List Event) → IsViewable k → slice ≡ k.text → source slice ≡ Ok Q → shape ≡ shape_told Q k.sizes → events ≡ k.run.events → IsRunOn Q shape k.sizes.fuel events
+  run-of-kept events can same is at are =
+      subst (λ (s : Shape). IsRunOn Q s k.sizes.fuel events) (sym at)
+      (subst (λ (es : List Event). IsRunOn Q (shape_told Q k.sizes) k.sizes.fuel es) (sym are) (can.run Q (ap source (sym same) ∙ is)))
+
+  -- what is made with that program is made of the kept run
+  pub made-of-kept : {X E : Type 0} (events : List Event) (Holds : ProgramParts → Shape → List Event → X → Type 0) (r : Result X E) → slice ≡ k.text → source slice ≡ Ok Q → shape ≡ shape_told Q k.sizes → events ≡ k.run.events
+      → IfOk r (Holds Q shape events) → IfOk r (λ x. OfProgram k.text (λ P. Holds P (shape_told P k.sizes) k.run.events x))
+  made-of-kept events Holds (Err e) same is at are holds = tt
+  made-of-kept events Holds (Ok x) same is at are holds =
+      of-program k.text slice Q (λ (P : ProgramParts). Holds P (shape_told P k.sizes) k.run.events x) same is
+      (subst (λ (es : List Event). Holds Q (shape_told Q k.sizes) es x) are (subst (λ (s : Shape). Holds Q s events x) at holds))
 
 -- what holds of the run that is handed on holds of the document's
-pub holds-of : (document : List ℕ) (k : KeptRun) (Holds : KeptRun → Type 0) → HasKeptRun document (λ L t run. k ≡ kept_run_of L t run) → Holds k
-    → HasKeptRun document (λ L t run. Holds (kept_run_of L t run))
+pub holds-of : (document : List ℕ) (k : KeptRun) (Holds : ProgramParts → KeptRun → Type 0) → HasKeptRun document (λ _ t run. k ≡ kept_run_of t run) → OfProgram k.text (λ P. Holds P k)
+    → HasKeptRun document (λ L t run. Holds L.program (kept_run_of t run))
 holds-of document k Holds has holds =
+    let told = has.holds.holds in
+    let here = subst (λ (x : KeptRun). OfProgram x.text (λ P. Holds P x)) told.holds holds in
     record {
       trace = has.trace;
       is = has.is;
@@ -97,7 +108,6 @@ holds-of document k Holds has holds =
             program = has.holds.program;
             is = has.holds.is;
             checked = has.holds.checked;
-            holds =
-                record { run = has.holds.holds.run; told = has.holds.holds.told; holds = subst Holds has.holds.holds.holds holds };
+            holds = record { run = told.run; told = told.told; holds = here has.holds.program has.holds.is };
           };
     }

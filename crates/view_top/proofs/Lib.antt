@@ -1,4 +1,3 @@
-pub mod Commands
 pub mod Kept
 pub mod Pictures
 pub mod Paged

@@ -1,44 +1,53 @@
 -- The picture of a run's chart.
-use Rattle.std.proofs.Common.{◌≡◌, ℕ, ◌≤◌, List, sym, ap, subst, ◌∙◌}
-use Rattle.dn_base.specs.declared.ids.Shape.{Shape}
+use Rattle.std.proofs.Common.{◌≡◌, ℕ, ◌≤◌, List, Result, Ok, Err, IfOk, refl, sym, ap, subst, ◌∙◌}
 use Rattle.region_table.specs.Program.{ProgramParts}
+use Rattle.rv_assembler.specs.Source.{source}
 use Rattle.text_places.specs.declared.places.Located.{Located}
-use Rattle.message_net.specs.declared.event.Event.{Event}
-use Rattle.dn_machine.specs.Settings.{IsRunOn}
-use Rattle.run_replay.specs.declared.trace.TraceShape.{TraceShape}
+use Rattle.text_places.specs.Places.{text_places}
 use Rattle.run_timing.specs.declared.ticks.Ticks.{Ticks}
+use Rattle.run_timing.specs.declared.timing.Link.{Link}
 use Rattle.run_timing.specs.declared.timing.Timing.{Timing}
-use Rattle.run_timing.specs.Longest.{IsTimingOf, numbers_in}
+use Rattle.run_timing.specs.Longest.{numbers_in}
 use Rattle.message_chart.specs.declared.chart.Chart.{Chart}
 use Rattle.message_chart.specs.Picture.{svg_of}
 use Rattle.run_chart.specs.declared.drawing.Range.{Range}
 use Rattle.run_chart.specs.Charts.{IsChartOf}
 use Rattle.dn_top.specs.Documents.{shape_told}
 use Rattle.view_top.specs.declared.answering.Output.{Output}
-use Rattle.view_top.specs.declared.options.ChartOptions.{ChartOptions}
-use Rattle.view_top.specs.Answers.{IsPicture, chart_ticks, last_number, made, range_for}
+use Rattle.view_top.specs.declared.documents.KeptRun.{KeptRun}
+use Rattle.view_words.specs.declared.options.ChartOptions.{ChartOptions}
+use Rattle.view_top.specs.Answers.{IsPicture, chart_ticks, last_number, located, made, range_for}
+use Rattle.view_top.specs.Kept.{IsKeptChain, IsKeptTiming, OfProgram}
 
-module _ (P : ProgramParts) (s : TraceShape) (shape : Shape) (events : List Event) where
-  pub run-at : shape ≡ shape_told P s → IsRunOn P (shape_told P s) s.fuel events → IsRunOn P shape s.fuel events
-  run-at is run = subst (λ (x : Shape). IsRunOn P x s.fuel events) (sym is) run
+-- the events of the longest chain, by the ticks that the options give
+pub chain-is : {E : Type 0} (k : KeptRun) (o : ChartOptions) (ticks : Ticks) (timing : Timing) (links : List Link) (r : Result (List ℕ) E) → ticks ≡ chart_ticks o → links ≡ timing.links.items → OfProgram k.text (IsKeptTiming k ticks timing)
+    → IfOk r (λ numbers. numbers ≡ numbers_in links) → IfOk r (λ chain. OfProgram k.text (IsKeptChain k (chart_ticks o) chain))
+chain-is k o ticks timing links (Err e) are same timed numbers = tt
+chain-is k o ticks timing links (Ok chain) are same timed numbers = λ P there.
+    record { timing = timing; times = subst (λ (x : Ticks). IsKeptTiming k x timing P) are (timed P there); is = numbers ∙ ap numbers_in same }
 
-  pub picture-is : (Q : ProgramParts) (L : Located) (o : ChartOptions) (ticks : Ticks) (timing : Timing) (chain : List ℕ) (range : Range) (chart : Chart) (text : List ℕ) (out : Output) → Q ≡ P → L.program ≡ P → shape ≡ shape_told P s
-      → ticks ≡ chart_ticks o → range ≡ range_for o → chain ≡ numbers_in timing.links.items → o.first ≤ last_number events → IsTimingOf P shape s.fuel events ticks timing
-      → IsChartOf Q shape s.fuel events range chain o.columns chart → text ≡ svg_of chart L → out ≡ made text → IsPicture L s o events out
-  picture-is Q L o ticks timing chain range chart text out same beside is ticks_are range_is chain_is within times charted says answer =
-      record {
-        within = within;
-        timing = timing;
-        times =
-            subst (λ (p : ProgramParts). IsTimingOf p (shape_told p s) s.fuel events (chart_ticks o) timing) (sym beside)
-            (subst (λ (x : Ticks). IsTimingOf P (shape_told P s) s.fuel events x timing) ticks_are
-            (subst (λ (x : Shape). IsTimingOf P x s.fuel events ticks timing) is times));
-        chart = chart;
-        is =
-            subst (λ (p : ProgramParts). IsChartOf p (shape_told p s) s.fuel events (range_for o) (numbers_in timing.links.items) o.columns chart) (sym beside)
-            (subst (λ (x : List ℕ). IsChartOf P (shape_told P s) s.fuel events (range_for o) x o.columns chart) chain_is
-            (subst (λ (x : Range). IsChartOf P (shape_told P s) s.fuel events x chain o.columns chart) range_is
-            (subst (λ (x : Shape). IsChartOf P x s.fuel events range chain o.columns chart) is
-            (subst (λ (p : ProgramParts). IsChartOf p shape s.fuel events range chain o.columns chart) same charted))));
-        answer = answer ∙ ap made says;
-      }
+-- the picture has the names of the text
+pub drawn-is : (text : List ℕ) (chart : Chart) (L : Located) (picture : List ℕ) (out : Output) → source text ≡ Ok L.program → L.places ≡ text_places text → picture ≡ svg_of chart L → out ≡ made picture
+    → OfProgram text (λ P. out ≡ made (svg_of chart (located P text)))
+drawn-is text chart L picture out is places says answer P there =
+    let one : L.program ≡ P = cc in
+    let here : L ≡ located P text = rw (sym one, sym places) refl in
+    answer ∙ ap made (says ∙ ap (svg_of chart) here)
+
+pub picture-is : {E : Type 0} (k : KeptRun) (o : ChartOptions) (chain numbers text : List ℕ) (range : Range) (chart : Chart) (r : Result Output E) → o.first ≤ last_number k.run.events → range ≡ range_for o → numbers ≡ chain → text ≡ k.text
+    → OfProgram k.text (IsKeptChain k (chart_ticks o) chain) → OfProgram k.text (λ P. IsChartOf P (shape_told P k.sizes) k.sizes.fuel k.run.events range numbers o.columns chart)
+    → IfOk r (λ out. OfProgram text (λ P. out ≡ made (svg_of chart (located P text)))) → IfOk r (λ out. OfProgram k.text (λ P. IsPicture (located P k.text) k.sizes o k.run.events out))
+picture-is k o chain numbers text range chart (Err e) within range_is same here chained charted drawn = tt
+picture-is k o chain numbers text range chart (Ok out) within range_is same here chained charted drawn = λ P there.
+    let c = chained P there in
+    let named = subst (λ (x : List ℕ). OfProgram x (λ (p : ProgramParts). out ≡ made (svg_of chart (located p x)))) here drawn in
+    record {
+      within = within;
+      timing = c.timing;
+      times = c.times;
+      chart = chart;
+      is =
+          subst (λ (x : List ℕ). IsChartOf P (shape_told P k.sizes) k.sizes.fuel k.run.events (range_for o) x o.columns chart) (same ∙ c.is)
+          (subst (λ (x : Range). IsChartOf P (shape_told P k.sizes) k.sizes.fuel k.run.events x numbers o.columns chart) range_is (charted P there));
+      answer = named P there;
+    }

@@ -34,12 +34,12 @@ use Rattle.dn_top.specs.Answers.{IsRefusedDocument}
 use Rattle.dn_top.specs.Documents.{HasTrace, IsNoDocument, IsRunTold, shape_told}
 use Rattle.dn_top.specs.Runs.{reported}
 use Rattle.view_top.specs.declared.answering.Output.{Output}
-use Rattle.view_top.specs.declared.options.View.{View}
-use Rattle.view_top.specs.declared.options.View.TheVariants as view
-use Rattle.view_top.specs.declared.options.ChartOptions.{ChartOptions}
-use Rattle.view_top.specs.declared.options.AccountOptions.{AccountOptions}
-use Rattle.view_top.specs.declared.options.StateOptions.{StateOptions}
-use Rattle.view_top.specs.declared.options.PageOptions.{PageOptions}
+use Rattle.view_words.specs.declared.options.View.{View}
+use Rattle.view_words.specs.declared.options.View.TheVariants as view
+use Rattle.view_words.specs.declared.options.ChartOptions.{ChartOptions}
+use Rattle.view_words.specs.declared.options.AccountOptions.{AccountOptions}
+use Rattle.view_words.specs.declared.options.StateOptions.{StateOptions}
+use Rattle.view_words.specs.declared.options.PageOptions.{PageOptions}
 use Rattle.view_top.specs.declared.status.ViewStatus.{ViewStatus}
 use Rattle.view_top.specs.declared.status.ViewStatus.TheVariants as status
 

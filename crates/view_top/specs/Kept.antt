@@ -1,23 +1,46 @@
 -- The run of a document, as it is passed between calls.
-use Rattle.std.specs.Prelude.{◌≡◌, ◌≤◌, length}
-use Rattle.text_places.specs.declared.places.Located.{Located}
+use Rattle.std.specs.Prelude.{◌≡◌, ◌≤◌, ℕ, List, length, Ok}
+use Rattle.region_table.specs.Program.{ProgramParts}
+use Rattle.rv_assembler.specs.Source.{source}
+use Rattle.message_net.specs.declared.event.Event.{Event}
 use Rattle.dn_machine.specs.declared.record.RunRecord.{RunRecord}
 use Rattle.dn_machine.specs.Settings.{IsRunOn}
 use Rattle.run_replay.specs.declared.trace.Trace.{Trace}
 use Rattle.run_replay.specs.Document.{IsTraceShape}
-use Rattle.dn_top.specs.Documents.{shape_told}
+use Rattle.run_timing.specs.declared.ticks.Ticks.{Ticks}
+use Rattle.run_timing.specs.declared.timing.Timing.{Timing}
+use Rattle.run_timing.specs.Longest.{IsTimingOf, numbers_in}
+use Rattle.dn_top.specs.Documents.{shape_told, IsRunTold}
 use Rattle.dn_top.specs.Runs.{IsPrintable}
 use Rattle.view_top.specs.declared.documents.KeptRun.{KeptRun}
 
--- the program is there twice, and once more in its text
-abbrev pub kept_run_of : Located → Trace → RunRecord → KeptRun
-kept_run_of L t run = record { sizes = t.shape; text = t.text; run = run; program = L.program; again = L.program; located = L }
+-- the machine's size, the text and the run of a document
+abbrev pub kept_run_of : Trace → RunRecord → KeptRun
+kept_run_of t run = record { sizes = t.shape; text = t.text; run = run }
+
+-- this holds of the program of a text, which has one at most
+abbrev pub OfProgram : List ℕ → (ProgramParts → Type 0) → Type 0
+OfProgram text Holds = (P : ProgramParts) → source text ≡ Ok P → Holds P
+
+-- the run of what a document tells is kept, and may be printed
+pub record IsKeptRun (P : ProgramParts) (t : Trace) (k : KeptRun) : Type 0 where
+  pub told : IsRunTold P t k.run
+  pub printable : IsPrintable k.run
+  pub is : k ≡ kept_run_of t k.run
 
 -- what is known of such a run, so that a mode may make its events again and print it
 pub record IsViewable (k : KeptRun) : Type 0 where
   pub sizes : IsTraceShape k.sizes
   pub few : length k.run.events ≤ 25169664
-  pub again : k.again ≡ k.program
-  pub located : k.located.program ≡ k.program
-  pub run : IsRunOn k.program (shape_told k.program k.sizes) k.sizes.fuel k.run.events
+  pub run : OfProgram k.text (λ P. IsRunOn P (shape_told P k.sizes) k.sizes.fuel k.run.events)
   pub printable : IsPrintable k.run
+
+-- the timing of a kept run on the machine of a program, by these ticks
+abbrev pub IsKeptTiming : KeptRun → Ticks → Timing → ProgramParts → Type 0
+IsKeptTiming k ticks timing P = IsTimingOf P (shape_told P k.sizes) k.sizes.fuel k.run.events ticks timing
+
+-- the numbers of the events of the run's longest chain, by these ticks
+pub record IsKeptChain (k : KeptRun) (ticks : Ticks) (chain : List ℕ) (P : ProgramParts) : Type 0 where
+  pub timing : Timing
+  pub times : IsKeptTiming k ticks timing P
+  pub is : chain ≡ numbers_in timing.links.items

@@ -1,18 +1,18 @@
 //! The mode account: what a run cost and why, in numbers.
-ghost use Rattle.std.specs.Prelude.{◌≡◌, ◌≤◌, length, IfOk, IfErr};
+ghost use Rattle.std.specs.Prelude.{◌≡◌, ◌≤◌, ◌++◌, length, IfOk, IfErr};
+ghost use Rattle.account_text.specs.Forms.{account_text};
 ghost use Rattle.run_replay.specs.Document.{IsTraceShape};
 ghost use Rattle.dn_machine.specs.Settings.{IsRunOn};
 ghost use Rattle.front_end.specs.Texts.{IsStop};
 ghost use Rattle.dn_top.specs.Answers.{IsRefusedDocument};
 ghost use Rattle.dn_top.specs.Documents.{shape_told};
 ghost use Rattle.dn_top.specs.Runs.{IsPrintable};
-ghost use Rattle.view_top.specs.declared.options.View.TheVariants as view;
-ghost use Rattle.view_top.specs.Answers.{heading_of, view_made, IsAccount, IsAccountOf};
-ghost use Rattle.view_top.specs.Kept.{IsViewable};
+ghost use Rattle.view_words.specs.declared.options.View.TheVariants as view;
+ghost use Rattle.view_top.specs.Answers.{heading_of, made, view_made, IsAccount, IsAccountOf};
+ghost use Rattle.view_top.specs.Kept.{IsViewable, OfProgram};
 
 use crate::answering::{Output, done_with};
-use crate::documents::{KeptRun, kept_run, shape_of};
-use crate::options::AccountOptions;
+use crate::documents::{KeptRun, kept_run, program_in, shape_of};
 use account_table::Grouping;
 use account_text::{Form, push_account};
 use dn_base::Memory;
@@ -25,6 +25,7 @@ use run_account::{Account, account_of};
 use run_replay::TraceShape;
 use run_report::report;
 use std::alloc::Global;
+use view_words::AccountOptions;
 
 /// The account of a run's events, in these groups.
 fn counted(
@@ -60,23 +61,33 @@ fn heading(alloc: Global, form: Form, run: &RunRecord) -> Result<Vec<u8>, Memory
     }
 }
 
-/// The account of a run, as it is printed.
-fn account(alloc: Global, options: &AccountOptions, kept: KeptRun) -> Result<Output, Memory>
-    requires { IsViewable kept }
-    ensures { IfOk result (IsAccount kept.program kept.sizes options.now kept.run) }
+/// The account of a kept run's events, in these groups.
+fn account_of_kept(alloc: Global, by: Grouping, kept: &KeptRun) -> Result<Account, Memory>
+    requires { IsViewable kept.now }
+    ensures { IfOk result (λ account. OfProgram kept.now.text (λ P. IsAccountOf P (shape_told P kept.now.sizes) kept.now.sizes.fuel kept.now.run.events by account.tallies)) }
 {
-    let KeptRun {
-        sizes,
-        text: _,
-        run,
-        program,
-        again,
-        located: _,
-    } = kept;
-    let account = counted(alloc, sizes, run.events.as_slice(), options.by, program)?;
-    let mut text = heading(alloc, options.form, &run)?;
-    push_account(&mut text, options.form, again.program(), account.table())?;
+    let program = program_in(alloc, kept.text.as_slice())?;
+    counted(alloc, kept.sizes, kept.run.events.as_slice(), by, program)
+}
+
+/// An account, as it is printed.
+fn printed(alloc: Global, form: Form, kept: &KeptRun, account: &Account) -> Result<Output, Memory>
+    requires { IsPrintable kept.now.run }
+    ensures { IfOk result (λ out. OfProgram kept.now.text (λ P. out ≡ made (heading_of form kept.now.run ++ account_text form P account.now.tallies))) }
+{
+    let program = program_in(alloc, kept.text.as_slice())?;
+    let mut text = heading(alloc, form, &kept.run)?;
+    push_account(&mut text, form, program.program(), account.table())?;
     Ok(done_with(text))
+}
+
+/// The account of a run, as the options ask for it.
+fn account(alloc: Global, options: &AccountOptions, kept: &KeptRun) -> Result<Output, Memory>
+    requires { IsViewable kept.now }
+    ensures { IfOk result (λ out. OfProgram kept.now.text (λ P. IsAccount P kept.now.sizes options.now kept.now.run out)) }
+{
+    let account = account_of_kept(alloc, options.by, kept)?;
+    printed(alloc, options.form, kept, &account)
 }
 
 /// The account of a document's run.
@@ -89,5 +100,5 @@ pub(crate) fn account_document(
     ensures stop { IfErr result (IsStop (IsRefusedDocument document.now)) }
 {
     let kept = kept_run(alloc, document)?;
-    Ok(account(alloc, options, kept)?)
+    Ok(account(alloc, options, &kept)?)
 }

@@ -1,31 +1,28 @@
 //! The mode chart: the message chart of a run.
-ghost use Rattle.std.specs.Prelude.{◌≡◌, ◌≤◌, ◌⊎◌, length, IfOk, IfErr};
-ghost use Rattle.dn_base.specs.Status.{status_of};
-ghost use Rattle.run_replay.specs.Document.{IsTraceShape};
+ghost use Rattle.std.specs.Prelude.{◌≡◌, ◌≤◌, IfOk, IfErr};
 ghost use Rattle.run_timing.specs.Longest.{numbers_in};
 ghost use Rattle.run_timing.specs.Ticks.{AreWithinLimits};
-ghost use Rattle.dn_machine.specs.Settings.{IsRunOn};
+ghost use Rattle.message_chart.specs.Picture.{svg_of};
+ghost use Rattle.run_chart.specs.Charts.{IsChartOf};
 ghost use Rattle.front_end.specs.Texts.{IsStop};
 ghost use Rattle.dn_top.specs.Answers.{IsRefusedDocument};
 ghost use Rattle.dn_top.specs.Documents.{shape_told};
-ghost use Rattle.view_top.specs.declared.options.View.TheVariants as view;
-ghost use Rattle.view_top.specs.Answers.{chart_ticks, last_number, made, range_for, usage, view_made, IsDrawn, IsPicture};
-ghost use Rattle.view_top.specs.Command.{IsChartInRange};
-ghost use Rattle.view_top.specs.Kept.{IsViewable};
+ghost use Rattle.view_words.specs.declared.options.View.TheVariants as view;
+ghost use Rattle.view_top.specs.Answers.{chart_ticks, last_number, located, made, range_for, view_made, IsDrawn, IsPicture};
+ghost use Rattle.view_words.specs.Command.{IsChartInRange};
+ghost use Rattle.view_top.specs.Kept.{IsKeptChain, IsViewable, OfProgram};
 
 use crate::answering::{Output, done_with, refused_words};
-use crate::documents::{KeptRun, kept_run, shape_of};
-use crate::options::ChartOptions;
+use crate::documents::{KeptRun, kept_run, places_in, program_in, shape_of};
+use crate::timings::timing_of;
 use dn_base::{Memory, Sequence};
-use effect_checker::Checked;
 use front_end::Stop;
-use message_chart::chart_text;
+use message_chart::{Chart, chart_text};
 use message_net::Event;
-use run_chart::{Range, chart};
-use run_replay::TraceShape;
-use run_timing::{Link, Ticks, time_run};
+use run_chart::{Columns, Range, chart};
+use run_timing::{Link, Ticks};
 use std::alloc::Global;
-use text_places::Located;
+use view_words::ChartOptions;
 
 /// The range of events that the options ask for.
 fn range_for(options: &ChartOptions) -> Range
@@ -64,69 +61,66 @@ fn numbers_in(alloc: Global, links: &[Link]) -> Result<Sequence<u32>, Memory>
     Ok(numbers)
 }
 
-/// The picture of a run's chart. The program is passed twice, since the timing and the chart use up one each, and once more
-/// with its text.
-fn picture(
-    alloc: Global,
-    options: &ChartOptions,
-    sizes: TraceShape,
-    events: &[Event],
-    program: Checked,
-    again: Checked,
-    text: &Located,
-) -> Result<Output, Memory>
+/// The numbers of the events of a run's longest chain, by the options' ticks.
+fn chain_of(alloc: Global, options: &ChartOptions, kept: &KeptRun) -> Result<Sequence<u32>, Memory>
     requires limits { IsChartInRange options.now }
-    requires within { options.now.first ≤ last_number events.now }
-    requires sizes { IsTraceShape sizes }
-    requires few { length events.now ≤ 25169664 }
-    requires again { again ≡ program }
-    requires text { text.now.program ≡ program }
-    requires run { IsRunOn program (shape_told program sizes) sizes.fuel events.now }
-    ensures { IfOk result (IsPicture text.now sizes options.now events.now) }
+    requires kept { IsViewable kept.now }
+    ensures { IfOk result (λ chain. OfProgram kept.now.text (IsKeptChain kept.now (chart_ticks options.now) chain)) }
 {
-    let shape = shape_of(sizes, &program);
-    let timing = time_run(
-        alloc,
-        program,
-        shape,
-        sizes.fuel,
-        events,
-        &chart_ticks(options),
-    )?;
-    let chain = numbers_in(alloc, timing.links.as_slice())?;
+    let timing = timing_of(alloc, kept, &chart_ticks(options))?;
+    numbers_in(alloc, timing.links.as_slice())
+}
+
+/// The chart of a run, with this range of events and this chain.
+fn chart_of(
+    alloc: Global,
+    kept: &KeptRun,
+    range: Range,
+    chain: &[u32],
+    columns: Columns,
+) -> Result<Chart, Memory>
+    requires kept { IsViewable kept.now }
+    requires most { range.most ≤ 4096 }
+    ensures { IfOk result (λ chart. OfProgram kept.now.text (λ P. IsChartOf P (shape_told P kept.now.sizes) kept.now.sizes.fuel kept.now.run.events range chain.now columns chart)) }
+{
+    let program = program_in(alloc, kept.text.as_slice())?;
+    let shape = shape_of(kept.sizes, &program);
+    let fuel = kept.sizes.fuel;
+    let events = kept.run.events.as_slice();
+    chart(alloc, program, shape, fuel, events, range, chain, columns)
+}
+
+/// A chart drawn, with the names of the text.
+fn drawn(alloc: Global, chart: &Chart, text: &[u8]) -> Result<Output, Memory>
+    ensures { IfOk result (λ out. OfProgram text.now (λ P. out ≡ made (svg_of chart.now (located P text.now)))) }
+{
+    let located = places_in(alloc, text)?;
+    Ok(done_with(chart_text(alloc, chart, &located)?))
+}
+
+/// The picture of a run's chart.
+fn picture(alloc: Global, options: &ChartOptions, kept: &KeptRun) -> Result<Output, Memory>
+    requires limits { IsChartInRange options.now }
+    requires within { options.now.first ≤ last_number kept.now.run.events }
+    requires kept { IsViewable kept.now }
+    ensures { IfOk result (λ out. OfProgram kept.now.text (λ P. IsPicture (located P kept.now.text) kept.now.sizes options.now kept.now.run.events out)) }
+{
+    let chain = chain_of(alloc, options, kept)?;
     let range = range_for(options);
-    let chart = chart(
-        alloc,
-        again,
-        shape,
-        sizes.fuel,
-        events,
-        range,
-        chain.as_slice(),
-        options.columns,
-    )?;
-    Ok(done_with(chart_text(alloc, &chart, text)?))
+    let chart = chart_of(alloc, kept, range, chain.as_slice(), options.columns)?;
+    drawn(alloc, &chart, kept.text.as_slice())
 }
 
 /// The picture of a run's chart, or the refusal of a picture that would begin after the run's last event.
-fn draw(alloc: Global, options: &ChartOptions, kept: KeptRun) -> Result<Output, Memory>
+fn draw(alloc: Global, options: &ChartOptions, kept: &KeptRun) -> Result<Output, Memory>
     requires limits { IsChartInRange options.now }
-    requires kept { IsViewable kept }
-    ensures { IfOk result (IsDrawn kept.located kept.sizes options.now kept.run) }
+    requires kept { IsViewable kept.now }
+    ensures { IfOk result (λ out. OfProgram kept.now.text (λ P. IsDrawn (located P kept.now.text) kept.now.sizes options.now kept.now.run out)) }
 {
-    let KeptRun {
-        sizes,
-        text: _,
-        run,
-        program,
-        again,
-        located,
-    } = kept;
-    let events = run.events.as_slice();
-    if options.first as usize > last_number(events) {
+    if options.first as usize > last_number(kept.run.events.as_slice()) {
         return refused_words(alloc);
     }
-    picture(alloc, options, sizes, events, program, again, &located)
+    picture(alloc, options, kept)
 }
 
 /// The chart of a document's run.
@@ -140,5 +134,5 @@ pub(crate) fn draw_document(
     ensures stop { IfErr result (IsStop (IsRefusedDocument document.now)) }
 {
     let kept = kept_run(alloc, document)?;
-    Ok(draw(alloc, options, kept)?)
+    Ok(draw(alloc, options, &kept)?)
 }

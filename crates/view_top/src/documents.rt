@@ -1,32 +1,29 @@
 //! From a document to its program and its run: what modes do first.
-ghost use Rattle.std.specs.Prelude.{◌≡◌, ◌≢◌, IfOk, IfErr, Ok, Err};
-ghost use Rattle.rv_assembler.specs.declared.fault.SourceFault.{SourceFault};
+ghost use Rattle.std.specs.Prelude.{◌≡◌, IfOk, IfErr, Ok};
 ghost use Rattle.rv_assembler.specs.Source.{source};
 ghost use Rattle.text_places.specs.Places.{text_places};
+ghost use Rattle.run_replay.specs.Document.{IsTrace};
 ghost use Rattle.front_end.specs.Texts.{IsStop};
 ghost use Rattle.dn_top.specs.Answers.{IsRefusedDocument};
-ghost use Rattle.dn_top.specs.Documents.{shape_told};
+ghost use Rattle.dn_top.specs.Documents.{shape_told, IsNoRun};
 ghost use Rattle.view_top.specs.Answers.{HasKeptRun};
-ghost use Rattle.view_top.specs.Kept.{kept_run_of, IsViewable};
+ghost use Rattle.view_top.specs.Kept.{kept_run_of, IsKeptRun, IsViewable};
 
 use dn_base::{Memory, Sequence, Shape};
 use dn_top::{RunRecord, run_told, shape_told, trace_in};
 use effect_checker::Checked;
 use front_end::{Stop, checked_of};
-use run_replay::TraceShape;
+use run_replay::{Trace, TraceShape};
 use std::alloc::Global;
 use text_places::{Located, located_program};
 
-/// The run of a document, with the size of its machine, its text and its program. The program is there twice, since a machine uses up
-/// one, and once more with the places of its parts in the text.
+/// The run of a document, with the size of its machine and its text. It has no program, since a machine uses one up: each step that
+/// needs the program assembles the text.
 #[derive(Drop)]
 pub(crate) struct KeptRun {
     pub(crate) sizes: TraceShape,
     pub(crate) text: Sequence<u8>,
     pub(crate) run: RunRecord,
-    pub(crate) program: Checked,
-    pub(crate) again: Checked,
-    pub(crate) located: Located,
 }
 
 /// The machine of a checked program, in the size that a document tells.
@@ -36,9 +33,18 @@ pub(crate) fn shape_of(sizes: TraceShape, checked: &Checked) -> Shape
     shape_told(sizes, checked.program())
 }
 
-/// The program of a text that has one, with the lines of its parts.
+/// The checked program of a text that has one: its text was checked before, so only memory can be missing.
+pub(crate) fn program_in(alloc: Global, text: &[u8]) -> Result<Checked, Memory>
+    ensures { IfOk result (λ program. source text.now ≡ Ok program) }
+{
+    match checked_of(alloc, text) {
+        Ok(program) => Ok(program),
+        Err(_) => Err(Memory),
+    }
+}
+
+/// The program of a text that has one, with the lines of its parts: its text was assembled before, so only memory can be missing.
 pub(crate) fn places_in(alloc: Global, text: &[u8]) -> Result<Located, Memory>
-    requires { (fault : SourceFault) → source text.now ≢ Err fault }
     ensures program { IfOk result (λ located. source text.now ≡ Ok located.program) }
     ensures places { IfOk result (λ located. located.places ≡ text_places text.now) }
 {
@@ -57,30 +63,28 @@ fn copy_of(alloc: Global, bytes: &[u8]) -> Result<Sequence<u8>, Memory>
     Ok(Sequence::from_vec(copy))
 }
 
+/// The run of what a document tells, beside a copy of its text: the replay uses up what was read.
+fn kept_trace(alloc: Global, trace: Trace, checked: Checked) -> Result<KeptRun, Stop>
+    requires { IsTrace trace }
+    ensures kept { IfOk result (IsKeptRun checked trace) }
+    ensures stop { IfErr result (IsStop (IsNoRun checked trace)) }
+{
+    let text = copy_of(alloc, trace.text.as_slice())?;
+    let sizes = trace.shape;
+    let run = run_told(alloc, trace, checked)?;
+    Ok(KeptRun { sizes, text, run })
+}
+
 /// The run of a document.
 ///
 /// # Errors
 /// `Refused` with the line by which the mode replay of denovo refuses the document, and `Memory` where there is no room.
 pub(crate) fn kept_run(alloc: Global, document: &[u8]) -> Result<KeptRun, Stop>
-    ensures kept { IfOk result (λ kept. HasKeptRun document.now (λ L trace run. kept ≡ kept_run_of L trace run)) }
+    ensures kept { IfOk result (λ kept. HasKeptRun document.now (λ _ trace run. kept ≡ kept_run_of trace run)) }
     ensures ready { IfOk result IsViewable }
     ensures stop { IfErr result (IsStop (IsRefusedDocument document.now)) }
 {
     let trace = trace_in(alloc, document)?;
-    let text = trace.text.as_slice();
-    let checked = checked_of(alloc, text)?;
-    let program = checked_of(alloc, text)?;
-    let again = checked_of(alloc, text)?;
-    let located = places_in(alloc, text)?;
-    let copy = copy_of(alloc, text)?;
-    let sizes = trace.shape;
-    let run = run_told(alloc, trace, checked)?;
-    Ok(KeptRun {
-        sizes,
-        text: copy,
-        run,
-        program,
-        again,
-        located,
-    })
+    let checked = checked_of(alloc, trace.text.as_slice())?;
+    kept_trace(alloc, trace, checked)
 }

@@ -1,29 +1,27 @@
 //! The mode page: the data of the page that shows a run in a browser.
-ghost use Rattle.std.specs.Prelude.{◌≡◌, ◌≤◌, ◌⊎◌, length, IfOk, IfErr};
-ghost use Rattle.run_replay.specs.Document.{IsTraceShape};
+ghost use Rattle.std.specs.Prelude.{◌≡◌, ◌≤◌, IfOk, IfErr};
 ghost use Rattle.run_timing.specs.Ticks.{AreWithinLimits};
-ghost use Rattle.dn_machine.specs.Settings.{IsRunOn};
+ghost use Rattle.page_data.specs.Page.{IsPageOf};
 ghost use Rattle.front_end.specs.Texts.{IsStop};
 ghost use Rattle.dn_top.specs.Answers.{IsRefusedDocument};
 ghost use Rattle.dn_top.specs.Documents.{shape_told};
-ghost use Rattle.view_top.specs.declared.options.View.TheVariants as view;
+ghost use Rattle.view_words.specs.declared.options.View.TheVariants as view;
 ghost use Rattle.view_top.specs.Answers.{last_number, page_ticks, view_made, IsPageData, IsPageFor, IsPaged};
-ghost use Rattle.view_top.specs.Command.{IsPageInRange};
-ghost use Rattle.view_top.specs.Kept.{IsViewable};
+ghost use Rattle.view_words.specs.Command.{IsPageInRange};
+ghost use Rattle.view_top.specs.Kept.{IsViewable, OfProgram};
 
 use crate::answering::{Output, refused_words};
 use crate::charts::last_number;
-use crate::documents::{KeptRun, kept_run, shape_of};
-use crate::options::PageOptions;
+use crate::documents::{KeptRun, kept_run, program_in, shape_of};
 use crate::status::ViewStatus;
+use crate::timings::timing_of;
 use dn_base::{Memory, Sequence};
 use dn_top::RunRecord;
-use effect_checker::Checked;
 use front_end::Stop;
 use page_data::{Page, page_text};
-use run_replay::TraceShape;
-use run_timing::{Ticks, Timing, time_run};
+use run_timing::{Ticks, Timing};
 use std::alloc::Global;
+use view_words::PageOptions;
 
 /// The ticks that the options give to each kind of event.
 fn page_ticks(options: &PageOptions) -> Ticks
@@ -57,30 +55,35 @@ fn page_for<'a>(
     }
 }
 
-/// The data of a run's page. The program is handed in twice, as the timing and the page use up one each.
-fn data(
-    alloc: Global,
-    options: &PageOptions,
-    sizes: TraceShape,
-    text: &Sequence<u8>,
-    run: &RunRecord,
-    program: Checked,
-    again: Checked,
-) -> Result<Output, Memory>
-    requires limits { IsPageInRange options.now }
-    requires within { options.now.first ≤ last_number run.now.events }
-    requires sizes { IsTraceShape sizes }
-    requires few { length run.now.events ≤ 25169664 }
-    requires again { again ≡ program }
-    requires run { IsRunOn program (shape_told program sizes) sizes.fuel run.now.events }
-    ensures { IfOk result (IsPageData program sizes text.now options.now run.now) }
+/// The data of a page of a run.
+fn bytes_of(alloc: Global, kept: &KeptRun, page: &Page<'_>) -> Result<Sequence<u8>, Memory>
+    requires kept { IsViewable kept.now }
+    requires most { page.now.most ≤ 20000 }
+    ensures { IfOk result (λ bytes. OfProgram kept.now.text (λ P. IsPageOf P (shape_told P kept.now.sizes) kept.now.sizes.fuel kept.now.run.events page.now bytes)) }
 {
-    let shape = shape_of(sizes, &program);
-    let events = run.events.as_slice();
-    let ticks = page_ticks(options);
-    let timing = time_run(alloc, program, shape, sizes.fuel, events, &ticks)?;
-    let page = page_for(options, text, run, &timing);
-    let bytes = page_text(alloc, again, shape, sizes.fuel, events, &page)?;
+    let program = program_in(alloc, kept.text.as_slice())?;
+    let shape = shape_of(kept.sizes, &program);
+    let fuel = kept.sizes.fuel;
+    page_text(
+        alloc,
+        program,
+        shape,
+        fuel,
+        kept.run.events.as_slice(),
+        page,
+    )
+}
+
+/// The data of a run's page, as the options ask for it.
+fn data(alloc: Global, options: &PageOptions, kept: &KeptRun) -> Result<Output, Memory>
+    requires limits { IsPageInRange options.now }
+    requires within { options.now.first ≤ last_number kept.now.run.events }
+    requires kept { IsViewable kept.now }
+    ensures { IfOk result (λ out. OfProgram kept.now.text (λ P. IsPageData P kept.now.sizes kept.now.text options.now kept.now.run out)) }
+{
+    let timing = timing_of(alloc, kept, &page_ticks(options))?;
+    let page = page_for(options, &kept.text, &kept.run, &timing);
+    let bytes = bytes_of(alloc, kept, &page)?;
     Ok(Output {
         status: ViewStatus::Done,
         bytes,
@@ -88,23 +91,15 @@ fn data(
 }
 
 /// The data of a run's page, or the refusal of a page that would begin after the run's last event.
-fn paged(alloc: Global, options: &PageOptions, kept: KeptRun) -> Result<Output, Memory>
+fn paged(alloc: Global, options: &PageOptions, kept: &KeptRun) -> Result<Output, Memory>
     requires limits { IsPageInRange options.now }
-    requires kept { IsViewable kept }
-    ensures { IfOk result (IsPaged kept.program kept.sizes kept.text options.now kept.run) }
+    requires kept { IsViewable kept.now }
+    ensures { IfOk result (λ out. OfProgram kept.now.text (λ P. IsPaged P kept.now.sizes kept.now.text options.now kept.now.run out)) }
 {
-    let KeptRun {
-        sizes,
-        text,
-        run,
-        program,
-        again,
-        located: _,
-    } = kept;
-    if options.first as usize > last_number(run.events.as_slice()) {
+    if options.first as usize > last_number(kept.run.events.as_slice()) {
         return refused_words(alloc);
     }
-    data(alloc, options, sizes, &text, &run, program, again)
+    data(alloc, options, kept)
 }
 
 /// The page of a document's run.
@@ -118,5 +113,5 @@ pub(crate) fn page_document(
     ensures stop { IfErr result (IsStop (IsRefusedDocument document.now)) }
 {
     let kept = kept_run(alloc, document)?;
-    Ok(paged(alloc, options, kept)?)
+    Ok(paged(alloc, options, &kept)?)
 }

@@ -1,14 +1,13 @@
 //! The mode state: a state of a document's run, and what may come there.
-ghost use Rattle.std.specs.Prelude.{◌≡◌, IfOk, IfErr};
+ghost use Rattle.std.specs.Prelude.{◌≡◌, ◌≤◌, length, IfOk, IfErr};
 ghost use Rattle.run_replay.specs.Document.{IsTrace};
 ghost use Rattle.text_places.specs.Places.{text_places};
 ghost use Rattle.front_end.specs.Texts.{IsStop};
-ghost use Rattle.view_top.specs.declared.options.View.TheVariants as view;
+ghost use Rattle.view_words.specs.declared.options.View.TheVariants as view;
 ghost use Rattle.view_top.specs.Answers.{status_at, view_made, IsStateShown, IsWithoutProgram};
 
 use crate::answering::{Output, refused_words};
 use crate::documents::{places_in, shape_of};
-use crate::options::StateOptions;
 use crate::status::ViewStatus;
 use dn_base::{Memory, Sequence};
 use dn_top::trace_in;
@@ -18,6 +17,7 @@ use run_replay::Trace;
 use state_text::state_at;
 use std::alloc::Global;
 use text_places::Places;
+use view_words::StateOptions;
 
 /// The status of a state before the event at `place`, if the event `asked` was asked for.
 fn status_at(asked: u32, place: u32) -> ViewStatus
@@ -30,9 +30,8 @@ fn status_at(asked: u32, place: u32) -> ViewStatus
     }
 }
 
-/// The state before the event that the options ask for, or before the first that may not come; or the refusal of a number that
-/// is above the number of the document's events.
-fn state_in(
+/// The state before the event that the options ask for, or before the first that may not come.
+fn state_before(
     alloc: Global,
     options: &StateOptions,
     trace: &Trace,
@@ -41,19 +40,34 @@ fn state_in(
 ) -> Result<Output, Memory>
     requires told { IsTrace trace.now }
     requires places { places.now ≡ text_places trace.now.text }
+    requires within { options.now.event ≤ length trace.now.events }
     ensures { IfOk result (IsStateShown checked trace.now options.now) }
 {
-    let events = trace.events.as_slice();
-    if options.event as usize > events.len() {
-        return refused_words(alloc);
-    }
     let shape = shape_of(trace.shape, &checked);
     let fuel = trace.shape.fuel;
+    let events = trace.events.as_slice();
     let shown = state_at(alloc, places, checked, shape, fuel, events, options.event)?;
     Ok(Output {
         status: status_at(options.event, shown.event),
         bytes: Sequence::from_vec(shown.text),
     })
+}
+
+/// That state, or the refusal of a number that is above the number of the document's events.
+fn state_in(
+    alloc: Global,
+    options: &StateOptions,
+    trace: &Trace,
+    checked: Checked,
+) -> Result<Output, Memory>
+    requires { IsTrace trace.now }
+    ensures { IfOk result (IsStateShown checked trace.now options.now) }
+{
+    if options.event as usize > trace.events.len() {
+        return refused_words(alloc);
+    }
+    let located = places_in(alloc, trace.text.as_slice())?;
+    state_before(alloc, options, trace, &located.places, checked)
 }
 
 /// The state before an event of a document. Only those before it need be events of a run.
@@ -66,8 +80,6 @@ pub(crate) fn show_state(
     ensures stop { IfErr result (IsStop (IsWithoutProgram document.now)) }
 {
     let trace = trace_in(alloc, document)?;
-    let text = trace.text.as_slice();
-    let checked = checked_of(alloc, text)?;
-    let located = places_in(alloc, text)?;
-    Ok(state_in(alloc, options, &trace, &located.places, checked)?)
+    let checked = checked_of(alloc, trace.text.as_slice())?;
+    Ok(state_in(alloc, options, &trace, checked)?)
 }

@@ -2,7 +2,7 @@ ghost use Rattle.std.specs.Prelude.{◌≡◌};
 ghost use Rattle.view_top.specs.Status.{view_code};
 
 /// How the program ended, as its exit code tells it.
-#[derive(Clone, Copy, Debug, PartialEq, Eq)]
+#[derive(Clone, Copy)]
 pub enum ViewStatus {
     /// What the words ask for was made, whatever the outcome of the document's run.
     Done = 0,

@@ -1,9 +1,10 @@
+use Rattle.region_table.specs.Program.{ProgramParts}
 use Rattle.view_top.specs.declared.documents.KeptRun.{KeptRun}
-use Rattle.view_top.specs.Answers.{IsDrawn}
+use Rattle.view_top.specs.Answers.{located, IsDrawn}
 use Rattle.view_top.proofs.Kept.{holds-of}
 use Rattle.view_top.proofs.charts.draw_document.Goals as goal
 
 pub returns-clause-made : goal.returns-clause-made
 returns-clause-made c =
-    holds-of c.args.document.now c.in_ok-kept.kept (λ (k : KeptRun). IsDrawn k.located k.sizes c.args.options.now k.run c.in_ok-draw.field-0) c.in_ok-kept.ensures.kept
+    holds-of c.args.document.now c.in_ok-kept.kept (λ (P : ProgramParts) (k : KeptRun). IsDrawn (located P k.text) k.sizes c.args.options.now k.run c.in_ok-draw.field-0) c.in_ok-kept.ensures.kept
     c.in_ok-draw.ensures

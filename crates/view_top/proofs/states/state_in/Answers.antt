@@ -1,8 +1,6 @@
-use Rattle.std.proofs.Common.{arith}
-use Rattle.view_top.proofs.Shown.{shown-in}
+use Rattle.std.proofs.Common.{ap, ◌∙◌}
+use Rattle.text_places.specs.Places.{text_places}
 use Rattle.view_top.proofs.states.state_in.Goals as goal
 
-pub returns : goal.returns
-returns c =
-    shown-in c.args.checked c.args.trace.now c.args.options.now c.shape_of-shape.result c.args.places.now c.as_slice-events.result.now c.in_ok-shown.shown c.status_at.result c.from_vec.result
-    c.shape_of-shape.ensures c.requires.places c.as_slice-events.ensures (omega arith) c.in_ok-shown.ensures c.status_at.ensures c.from_vec.ensures
+pub state_before-requires-clause-places : goal.state_before-requires-clause-places
+state_before-requires-clause-places c = c.in_ok-located.ensures.places ∙ ap text_places c.as_slice.ensures

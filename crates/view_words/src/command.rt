@@ -1,6 +1,6 @@
 ghost use Rattle.std.specs.Prelude.{◌≡◌, false, IfOk};
 ghost use Rattle.clap.specs.Words.{app_of, rule_of};
-ghost use Rattle.view_top.specs.Command.{open_number_rule, view_command};
+ghost use Rattle.view_words.specs.Command.{open_number_rule, view_command};
 
 use clap::{Arg, ArgAction, Command};
 use command_words::{bare_command, number_option, text_option, with_option};

@@ -4,7 +4,7 @@ use run_chart::Columns;
 
 /// What is made of the document of a run, and with which options. Each mode has its own options, and ignores those of the other
 /// modes.
-#[derive(Clone, Copy, Debug, PartialEq, Eq)]
+#[derive(Clone, Copy)]
 pub enum View {
     /// The message chart of the run, as an SVG text.
     Chart(ChartOptions),
@@ -17,7 +17,7 @@ pub enum View {
 }
 
 /// What the words ask of a chart.
-#[derive(Clone, Copy, Debug, PartialEq, Eq)]
+#[derive(Clone, Copy)]
 pub struct ChartOptions {
     /// The number of the first event that has a row, from 0.
     pub first: u32,
@@ -34,7 +34,7 @@ pub struct ChartOptions {
 }
 
 /// What the words ask of an account.
-#[derive(Clone, Copy, Debug, PartialEq, Eq)]
+#[derive(Clone, Copy)]
 pub struct AccountOptions {
     /// What the groups of its numbers are.
     pub by: Grouping,
@@ -43,7 +43,7 @@ pub struct AccountOptions {
 }
 
 /// What the words ask of a state.
-#[derive(Clone, Copy, Debug, PartialEq, Eq)]
+#[derive(Clone, Copy)]
 pub struct StateOptions {
     /// The number of the event, from 0, before which the state is. The number of all events asks for the state after the last
     /// one.
@@ -51,7 +51,7 @@ pub struct StateOptions {
 }
 
 /// What the words ask of a page.
-#[derive(Clone, Copy, Debug, PartialEq, Eq)]
+#[derive(Clone, Copy)]
 pub struct PageOptions {
     /// The number of the page's first event, from 0.
     pub first: u32,

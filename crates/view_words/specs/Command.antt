@@ -12,12 +12,12 @@ use Rattle.account_text.specs.declared.form.Form as form
 use Rattle.run_chart.specs.declared.finishing.Columns.{Columns}
 use Rattle.run_chart.specs.declared.finishing.Columns as columns
 use Rattle.command_words.specs.Words.{bare, faults_in, number_in, number_rule, text_rule, values_in, where_taken}
-use Rattle.view_top.specs.declared.options.View.{View}
-use Rattle.view_top.specs.declared.options.View as view
-use Rattle.view_top.specs.declared.options.ChartOptions.{ChartOptions}
-use Rattle.view_top.specs.declared.options.AccountOptions.{AccountOptions}
-use Rattle.view_top.specs.declared.options.StateOptions.{StateOptions}
-use Rattle.view_top.specs.declared.options.PageOptions.{PageOptions}
+use Rattle.view_words.specs.declared.options.View.{View}
+use Rattle.view_words.specs.declared.options.View as view
+use Rattle.view_words.specs.declared.options.ChartOptions.{ChartOptions}
+use Rattle.view_words.specs.declared.options.AccountOptions.{AccountOptions}
+use Rattle.view_words.specs.declared.options.StateOptions.{StateOptions}
+use Rattle.view_words.specs.declared.options.PageOptions.{PageOptions}
 
 -- ---- the command
 

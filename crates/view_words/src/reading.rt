@@ -2,7 +2,7 @@ ghost use Rattle.std.specs.Prelude.{◌≡◌, ◌≤◌, IfOk, IfErr, map, stri
 ghost use Rattle.std.specs.Int.{IsInRange};
 ghost use Rattle.clap.specs.Words.{rows_of, found_of, first_of};
 ghost use Rattle.command_words.specs.declared.words.WordsFault.TheVariants.{Usage};
-ghost use Rattle.view_top.specs.Command.{account_options_from, chart_options_from, columns_in, columns_named, form_in, form_named, grouping_in, grouping_named, page_options_from, rows_in, state_options_from, view_from, view_named, view_of, IsChartInRange, IsPageInRange, IsViewInRange};
+ghost use Rattle.view_words.specs.Command.{account_options_from, chart_options_from, columns_in, columns_named, form_in, form_named, grouping_in, grouping_named, page_options_from, rows_in, state_options_from, view_from, view_named, view_of, IsChartInRange, IsPageInRange, IsViewInRange};
 
 use crate::command::view_command;
 use crate::options::{AccountOptions, ChartOptions, PageOptions, StateOptions, View};
