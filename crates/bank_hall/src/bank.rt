@@ -10,21 +10,21 @@ use std::marker::Model;
 use turn_lock::Object;
 
 /// What a bank's step returns to its caller: its note, and the mail that the bank sends, which the caller has to post.
-#[derive(Clone, Copy, Debug, PartialEq, Eq)]
+#[derive(Clone, Copy, PartialEq, Eq)]
 pub struct Handled {
     pub stamped: Stamped,
     pub reply: Option<Posted>,
 }
 
 /// The input of a call of a bank: a mail to put in, or the pick of the mail to handle.
-#[derive(Clone, Copy, Debug, PartialEq, Eq)]
+#[derive(Clone, Copy)]
 pub enum BankIn {
     Post(Posted),
     Step { pick: u32 },
 }
 
 /// The output of a call of a bank: the mail is in the inbox, or what the step did.
-#[derive(Clone, Copy, Debug, PartialEq, Eq)]
+#[derive(Clone, Copy)]
 pub enum BankOut {
     Kept,
     /// None exactly if the inbox was empty or the bank was spent; nothing changed then.

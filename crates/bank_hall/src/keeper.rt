@@ -13,7 +13,7 @@ use turn_lock::Object;
 
 /// What the keeper's step returns to its caller: its note, the verdict, and the number of the letter to core 0. The letters to
 /// the cores, which the caller has to post, are numbered from there on.
-#[derive(Clone, Copy, Debug)]
+#[derive(Clone, Copy)]
 pub struct KeeperHandled {
     pub stamped: Stamped,
     pub verdict: Verdict,
@@ -50,14 +50,14 @@ impl KeeperHandled {
 }
 
 /// The input of a call of the keeper: a mail to put in, or the pick of the mail to handle.
-#[derive(Clone, Copy, Debug, PartialEq, Eq)]
+#[derive(Clone, Copy)]
 pub enum KeeperIn {
     Post(Posted),
     Step { pick: u32 },
 }
 
 /// The output of a call of the keeper: the mail is in the inbox, or what the step did.
-#[derive(Clone, Copy, Debug)]
+#[derive(Clone, Copy)]
 pub enum KeeperOut {
     Kept,
     /// None exactly if the inbox was empty or the keeper was spent; nothing changed then.
@@ -68,7 +68,7 @@ pub enum KeeperOut {
 ///
 /// It is spent once its clock or the stamp of the picked mail has reached 2^63, or the number of its next mail 4,294,967,000 (this
 /// project's profile).
-#[derive(Debug, Drop)]
+#[derive(Drop)]
 pub struct KeeperActor {
     keeper: Keeper,
     inbox: Vec<Posted>,

@@ -7,14 +7,14 @@ use std::marker::Model;
 use turn_lock::Object;
 
 /// The input of a call of a port: a mail to put in, or the pick of the mail to take.
-#[derive(Clone, Copy, Debug, PartialEq, Eq)]
+#[derive(Clone, Copy)]
 pub enum PortIn {
     Post(Posted),
     Take { pick: u32 },
 }
 
 /// The output of a call of a port: the mail is in the inbox, or the mail that was taken.
-#[derive(Clone, Copy, Debug, PartialEq, Eq)]
+#[derive(Clone, Copy)]
 pub enum PortOut {
     Kept,
     /// None exactly if the inbox was empty, or the picked mail's stamp was 2^63 or more.
@@ -23,7 +23,7 @@ pub enum PortOut {
 
 /// A core's inbox. A mail is put in at its end. A take gives the mail at the pick, modulo the number of mails, and the last
 /// mail moves to its index.
-#[derive(Debug, Drop)]
+#[derive(Drop)]
 pub struct Port {
     inbox: Vec<Posted>,
 }

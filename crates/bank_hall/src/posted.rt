@@ -6,7 +6,7 @@ use grant_log::Stamped;
 use message_net::{Actor, Event, Mail};
 
 /// A mail in flight, with the stamp of the event that sent it.
-#[derive(Clone, Copy, Debug, PartialEq, Eq)]
+#[derive(Clone, Copy, PartialEq, Eq)]
 pub struct Posted {
     pub mail: Mail,
     pub stamp: u64,

@@ -163,7 +163,7 @@ fn step_at(program: &Program, place: usize, row: &mut Row)
 }
 
 /// The last word of a block, and the row there.
-#[derive(Clone, Copy, Debug, PartialEq, Eq)]
+#[derive(Clone, Copy)]
 pub(crate) struct Last {
     pub(crate) place: usize,
     pub(crate) row: Row,

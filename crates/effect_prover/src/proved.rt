@@ -6,7 +6,7 @@ use std::alloc::Global;
 use text_pieces::{push, push_decimal, push_hexadecimal};
 
 /// What the prover says of a program.
-#[derive(Clone, Copy, Debug, PartialEq, Eq)]
+#[derive(Clone, Copy)]
 pub enum Proved {
     /// Every load and store that a task can reach only accesses words that the task declares. So no run ends a task by the trap
     /// `outside`.

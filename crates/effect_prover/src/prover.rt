@@ -131,7 +131,7 @@ fn check_task(
 }
 
 /// A word whose instruction isn't inside: its index, and the core whose task reaches it.
-#[derive(Clone, Copy, Debug, PartialEq, Eq)]
+#[derive(Clone, Copy)]
 struct Found {
     core: CoreId,
     place: usize,

@@ -6,7 +6,7 @@ ghost use Rattle.effect_prover.specs.Range.{Has, IsRange, one, every, is_one, wr
 use rv_isa::{AluOp, alu};
 
 /// The numbers from `lo` to `hi`, both included. They have 32 bits without sign.
-#[derive(Clone, Copy, Debug, PartialEq, Eq)]
+#[derive(Clone, Copy, PartialEq, Eq)]
 pub struct Range {
     pub lo: u32,
     pub hi: u32,

@@ -7,7 +7,7 @@ use region_table::TaskDecl;
 use rv_isa::Reg;
 
 /// What holds of a task whenever it reaches a code word.
-#[derive(Clone, Copy, Debug, PartialEq, Eq)]
+#[derive(Clone, Copy)]
 pub struct Row {
     /// The numbers that x0 to x31 can have. The first is 0.
     pub ranges: [Range; 32],

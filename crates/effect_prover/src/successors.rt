@@ -11,7 +11,7 @@ use crate::row::{A0, A7, Row};
 use rv_isa::{Cond, Instr, Reg, Width, taken};
 
 /// Where a task can continue after an instruction, each with its row, or None if it can't.
-#[derive(Clone, Copy, Debug, PartialEq, Eq)]
+#[derive(Clone, Copy)]
 pub struct Successors {
     /// At the next code word.
     pub next: Option<Row>,

@@ -12,7 +12,7 @@ use region_table::{Program, TaskDecl};
 use std::alloc::Global;
 
 /// The least table of all tasks with this entry and argument, by its rows at the leaders.
-#[derive(Debug, Drop)]
+#[derive(Drop)]
 pub(crate) struct TaskTable {
     pub(crate) entry: u32,
     pub(crate) arg: u32,

@@ -14,7 +14,7 @@ use region_table::{Interval, TaskDecl, WordSet};
 use std::alloc::Global;
 
 /// How an instruction accesses a word.
-#[derive(Clone, Copy, Debug, PartialEq, Eq)]
+#[derive(Clone, Copy)]
 pub(crate) enum Access {
     Load,
     Store,
@@ -224,14 +224,14 @@ fn usable_set(alloc: Global, access: Access, task: &TaskDecl, held: u32) -> Resu
 }
 
 /// The words that a task may load, or those that it may store, while it holds these locks.
-#[derive(Debug, Drop)]
+#[derive(Drop)]
 pub(crate) struct UsableSet {
     pub(crate) held: u32,
     pub(crate) words: WordSet,
 }
 
 /// The sets that are kept, of the words that a task may load and of those that it may store.
-#[derive(Debug, Drop)]
+#[derive(Drop)]
 pub(crate) struct UsableSets {
     pub(crate) loads: Option<UsableSet>,
     pub(crate) stores: Option<UsableSet>,

@@ -1,20 +1,14 @@
 -- The state of a machine that is joined again.
-use Rattle.std.proofs.Common.{◌≡◌, ℕ, List, ◌++◌, map, sym, ap, ◌∙◌}
-use Rattle.message_net.specs.declared.message.Mail.{Mail}
+use Rattle.std.proofs.Common.{◌≡◌, ◌++◌, map}
 use Rattle.registration_protocol.specs.Node.{Setting}
-use Rattle.machine_rules.specs.State.{State}
 use Rattle.round_rules.specs.Rounds.{mail_in}
 use Rattle.host_workers.specs.declared.finishing.Finished.{Finished}
+use Rattle.host_workers.specs.declared.opening.Moving.{Moving}
+use Rattle.host_workers.specs.declared.round.FixedParts.{FixedParts}
 use Rattle.host_workers.specs.Finishing.{left_in}
 use Rattle.host_workers.specs.Inboxes.{inboxes_of, all_posted}
+use Rattle.host_workers.specs.MadeRounds.{fixed_setting, made_from_parts}
 
-abbrev pub state_with : Finished → Setting → List Mail → List ℕ → State
-state_with f frame mails numbers =
-    record { setting = frame; nodes = f.parted.nodes.items; banks = f.objects.banks.items; keeper = f.objects.keeper; mails = mails; numbers = numbers }
-
-pub state-joined : (f : Finished) (C frame : Setting) (mails : List Mail) (numbers : List ℕ) → C ≡ frame → mails ≡ map mail_in (all_posted (inboxes_of f.objects.inboxes)) → numbers ≡ f.parted.next.items ++ f.objects.next.items
-    → left_in C f ≡ state_with f frame mails numbers
-state-joined f C frame mails numbers one two three =
-    ap (λ (D : Setting). state_with f D (map mail_in (all_posted (inboxes_of f.objects.inboxes))) (f.parted.next.items ++ f.objects.next.items)) one
-    ∙ (ap (λ (ms : List Mail). state_with f frame ms (f.parted.next.items ++ f.objects.next.items)) (sym two)
-    ∙ ap (λ (ns : List ℕ). state_with f frame mails ns) (sym three))
+pub state-joined : (f : Finished) (C : Setting) (fixed : FixedParts) (m : Moving) → C ≡ fixed_setting fixed → m.nodes.items ≡ f.parted.nodes.items → m.banks.items ≡ f.objects.banks.items → m.keeper ≡ f.objects.keeper
+    → m.pool.mails ≡ map mail_in (all_posted (inboxes_of f.objects.inboxes)) → m.next.items ≡ f.parted.next.items ++ f.objects.next.items → left_in C f ≡ (made_from_parts fixed m).state
+state-joined f C fixed m frame nodes banks keeper mails numbers = cc

@@ -3,7 +3,7 @@ use dn_base::BankId;
 use grant_log::Stamped;
 
 /// A bank that a worker owns, with the notes of the bank's events.
-#[derive(Debug, Drop)]
+#[derive(Drop)]
 pub struct BankLog {
     pub bank: BankId,
     pub log: Vec<Stamped>,

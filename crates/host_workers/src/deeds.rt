@@ -14,7 +14,7 @@ use rv_core::TaskEnd;
 
 /// The result of a node's event: the lock that was granted, the message that is sent, and how the task of a node that arrived
 /// had ended.
-#[derive(Clone, Copy, Debug)]
+#[derive(Clone, Copy)]
 pub(crate) struct NodeCame {
     pub(crate) granted: Option<Grant>,
     pub(crate) sent: Option<Outgoing>,

@@ -184,10 +184,10 @@ impl Inboxes {
     ///
     /// # Errors
     /// `Memory` where there is no room.
-    pub(crate) fn pool(self, alloc: Global) -> Result<Pool, Memory>
-        requires distinct { AreDistinct (map mail_in (all_posted (inboxes_of self))) }
-        requires few { length (all_posted (inboxes_of self)) < 4294967295 }
-        ensures { IfOk result (λ pool. pool.mails ≡ map mail_in (all_posted (inboxes_of self))) }
+    pub(crate) fn pool(&self, alloc: Global) -> Result<Pool, Memory>
+        requires distinct { AreDistinct (map mail_in (all_posted (inboxes_of self.now))) }
+        requires few { length (all_posted (inboxes_of self.now)) < 4294967295 }
+        ensures { IfOk result (λ pool. pool.mails ≡ map mail_in (all_posted (inboxes_of self.now))) }
     {
         let mut pool = Pool::new(alloc);
         post_each(&mut pool, self.cores.as_slice())?;
@@ -205,26 +205,45 @@ struct Homes {
     next: Vec<u32>,
 }
 
+impl Homes {
+    /// No banks.
+    fn none(alloc: Global) -> Homes
+        ensures banks { result.banks.items ≡ [] }
+        ensures inboxes { map (λ v. v.items) result.inboxes.items ≡ [] }
+        ensures numbers { result.next.items ≡ [] }
+    {
+        Homes {
+            banks: Vec::new(alloc),
+            inboxes: Vec::new(alloc),
+            next: Vec::new(alloc),
+        }
+    }
+
+    /// Puts a bank's actor, taken apart, before the others.
+    fn add(&mut self, actor: BankActor) -> Result<(), Memory>
+        ensures banks { OnOk result (self.new.banks.items ≡ bank_parts actor ∷ self.old.banks.items) }
+        ensures inboxes { OnOk result (map (λ v. v.items) self.new.inboxes.items ≡ bank_inbox actor ∷ map (λ v. v.items) self.old.inboxes.items) }
+        ensures numbers { OnOk result (self.new.next.items ≡ bank_number actor ∷ self.old.next.items) }
+    {
+        let (bank, inbox, number, _clock) = actor.parts();
+        self.banks.insert(0, bank)?;
+        self.inboxes.insert(0, inbox)?;
+        self.next.insert(0, number)?;
+        Ok(())
+    }
+}
+
 /// The bank actors taken apart.
 fn homes_of(alloc: Global, mut actors: Vec<BankActor>) -> Result<Homes, Memory>
     ensures banks { IfOk result (λ homes. homes.banks.items ≡ map bank_parts actors.items) }
     ensures inboxes { IfOk result (λ homes. map (λ v. v.items) homes.inboxes.items ≡ map bank_inbox actors.items) }
     ensures numbers { IfOk result (λ homes. homes.next.items ≡ map bank_number actors.items) }
 {
-    let mut banks = Vec::new(alloc);
-    let mut inboxes = Vec::new(alloc);
-    let mut next = Vec::new(alloc);
+    let mut homes = Homes::none(alloc);
     while let Some(actor) = actors.pop() {
-        let (bank, inbox, number, _clock) = actor.parts();
-        banks.insert(0, bank)?;
-        inboxes.insert(0, inbox)?;
-        next.insert(0, number)?;
+        homes.add(actor)?;
     }
-    Ok(Homes {
-        banks,
-        inboxes,
-        next,
-    })
+    Ok(homes)
 }
 
 /// The inboxes of the ports.

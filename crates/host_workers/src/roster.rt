@@ -1,5 +1,5 @@
 //! All that workers own of a machine. It is dealt to their crews when a round begins, and gathered when it ends.
-ghost use Rattle.std.specs.Prelude.{◌≡◌, ℕ, ◌≤◌, [], ◌++◌, map, length, slice_get, Some, IfOk, OnOk};
+ghost use Rattle.std.specs.Prelude.{◌≡◌, ℕ, ◌≤◌, [], ◌∷◌, ◌++◌, map, length, slice_get, Some, IfOk, OnOk};
 ghost use Rattle.host_workers.specs.declared.crew.BankLog.{BankLog as OneBank};
 ghost use Rattle.host_workers.specs.declared.owned.Owned.{Owned as OneCore};
 ghost use Rattle.host_workers.specs.Rosters.{roster_of, IsFreshCore, IsFreshRoster, AreCrewsOf, AreDealt, IsTheDealt, HaveGotCores, HaveGotBanks, HaveGivenCores, HaveGivenBanks, node_of, next_of, core_log, core_ends, bank_log, logs_of};
@@ -171,6 +171,37 @@ fn gather_banks(alloc: Global, crews: &mut Vec<Crew>, count: u32) -> Result<Vec<
     Ok(banks)
 }
 
+impl Parted {
+    /// No cores and no logs.
+    fn none(alloc: Global) -> Parted
+        ensures nodes { result.nodes.items ≡ [] }
+        ensures next { result.next.items ≡ [] }
+        ensures ends { map (λ e. e.items) result.ends.items ≡ [] }
+        ensures logs { map (λ l. l.items) result.logs.items ≡ [] }
+    {
+        Parted {
+            nodes: Vec::new(alloc),
+            next: Vec::new(alloc),
+            ends: Vec::new(alloc),
+            logs: Vec::new(alloc),
+        }
+    }
+
+    /// Adds a core, taken apart.
+    fn add(&mut self, owned: Owned) -> Result<(), Memory>
+        ensures nodes { OnOk result (self.new.nodes.items ≡ self.old.nodes.items ++ node_of owned ∷ []) }
+        ensures next { OnOk result (self.new.next.items ≡ self.old.next.items ++ next_of owned ∷ []) }
+        ensures ends { OnOk result (map (λ e. e.items) self.new.ends.items ≡ map (λ e. e.items) self.old.ends.items ++ core_ends owned ∷ []) }
+        ensures logs { OnOk result (map (λ l. l.items) self.new.logs.items ≡ map (λ l. l.items) self.old.logs.items ++ core_log owned ∷ []) }
+    {
+        self.nodes.push(owned.node)?;
+        self.next.push(owned.next)?;
+        self.ends.push(owned.ends)?;
+        self.logs.push(owned.log)?;
+        Ok(())
+    }
+}
+
 /// Takes the cores apart. The logs are only those of the cores.
 fn part_cores(alloc: Global, cores: Vec<Owned>) -> Result<Parted, Memory>
     ensures nodes { IfOk result (λ p. p.nodes.items ≡ map node_of cores.items) }
@@ -178,22 +209,11 @@ fn part_cores(alloc: Global, cores: Vec<Owned>) -> Result<Parted, Memory>
     ensures ends { IfOk result (λ p. map (λ e. e.items) p.ends.items ≡ map core_ends cores.items) }
     ensures logs { IfOk result (λ p. map (λ l. l.items) p.logs.items ≡ map core_log cores.items) }
 {
-    let mut nodes = Vec::new(alloc);
-    let mut next = Vec::new(alloc);
-    let mut ends = Vec::new(alloc);
-    let mut logs = Vec::new(alloc);
+    let mut parted = Parted::none(alloc);
     for owned in cores {
-        nodes.push(owned.node)?;
-        next.push(owned.next)?;
-        ends.push(owned.ends)?;
-        logs.push(owned.log)?;
+        parted.add(owned)?;
     }
-    Ok(Parted {
-        nodes,
-        next,
-        ends,
-        logs,
-    })
+    Ok(parted)
 }
 
 /// Adds the logs of the banks.

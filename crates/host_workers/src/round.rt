@@ -1,5 +1,8 @@
 //! One round of host workers.
-ghost use Rattle.std.specs.Prelude.{◌≡◌, ◌+◌, ◌≤◌, ◌<◌, ℕ, IfOk};
+ghost use Rattle.std.specs.Prelude.{◌≡◌, ◌+◌, ◌++◌, ◌≤◌, ◌<◌, ℕ, length, map, IfOk};
+ghost use Rattle.message_net.specs.Pool.{AreDistinct};
+ghost use Rattle.round_rules.specs.Rounds.{mail_in};
+ghost use Rattle.host_workers.specs.Inboxes.{inboxes_of, all_posted};
 ghost use Rattle.registration_protocol.specs.Setting.{setting};
 ghost use Rattle.machine_rules.specs.State.{State};
 ghost use Rattle.dn_machine.specs.Kept.{IsKept, IsLeftByRun};
@@ -9,6 +12,7 @@ ghost use Rattle.host_workers.specs.MadeRounds.{fixed_setting, made_from_parts, 
 
 use crate::ends::ends_in;
 use crate::finishing::{Finished, finish};
+use crate::inboxes::Objects;
 use crate::opening::{Moving, Opened, open};
 use crate::working::work_all;
 use bank_hall::{BankActor, KeeperActor, Port};
@@ -17,7 +21,7 @@ use dn_machine::{Machine, MachineParts};
 use effect_checker::Checked;
 use grant_log::{Stamped, merge};
 use region_table::PhasePlan;
-use registration_protocol::Context;
+use registration_protocol::{Context, Node};
 use round_rules::{
     a_round_is_a_run, no_object_is_spent, steps_are_of_owners, whoever_has_something_to_do_acts,
 };
@@ -110,6 +114,35 @@ impl FixedParts {
     }
 }
 
+/// What a round leaves of what it changes in a machine: the nodes with the numbers of the cores' next mails, and the objects.
+///
+/// # Errors
+/// `Memory` where there is no room.
+fn moving_of(
+    alloc: Global,
+    nodes: Vec<Node>,
+    mut next: Vec<u32>,
+    objects: Objects,
+) -> Result<Moving, Memory>
+    requires distinct { AreDistinct (map mail_in (all_posted (inboxes_of objects.inboxes))) }
+    requires few { length (all_posted (inboxes_of objects.inboxes)) < 4294967295 }
+    ensures nodes { IfOk result (λ moving. moving.nodes.items ≡ nodes.items) }
+    ensures banks { IfOk result (λ moving. moving.banks.items ≡ objects.banks.items) }
+    ensures keeper { IfOk result (λ moving. moving.keeper ≡ objects.keeper) }
+    ensures mails { IfOk result (λ moving. moving.pool.mails ≡ map mail_in (all_posted (inboxes_of objects.inboxes))) }
+    ensures numbers { IfOk result (λ moving. moving.next.items ≡ next.items ++ objects.next.items) }
+{
+    let pool = objects.inboxes.pool(alloc)?;
+    next.extend_from_slice(objects.next.as_slice())?;
+    Ok(Moving {
+        nodes,
+        banks: objects.banks,
+        keeper: objects.keeper,
+        pool,
+        next,
+    })
+}
+
 /// Puts a round together from what is left of it: the notes are merged, and the machine is joined again.
 ///
 /// # Errors
@@ -127,15 +160,7 @@ fn put_together(alloc: Global, fixed: FixedParts, finished: Finished) -> Result<
     } = finished;
     let merged = merge(alloc, parted.logs)?;
     let ends = ends_in(alloc, merged.as_slice(), parted.ends.as_slice())?;
-    let mut next = parted.next;
-    next.extend_from_slice(objects.next.as_slice())?;
-    let moving = Moving {
-        nodes: parted.nodes,
-        banks: objects.banks,
-        keeper: objects.keeper,
-        pool: objects.inboxes.pool(alloc)?,
-        next,
-    };
+    let moving = moving_of(alloc, parted.nodes, parted.next, objects)?;
     Ok(Round {
         machine: fixed.machine(moving, merged.len() as u64),
         merged,

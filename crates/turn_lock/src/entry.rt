@@ -1,7 +1,6 @@
 use crate::object::Object;
 
 /// One call of a history: which pass made it, what it was given, and what it answered.
-#[derive_where(Clone, Debug, PartialEq, Eq; O::In, O::Out)]
 pub struct Entry<O: Object> {
     /// The number of the pass that made the call, from 0.
     pub pass: u32,

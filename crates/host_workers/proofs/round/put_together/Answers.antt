@@ -28,14 +28,14 @@ ends_in-requires c =
           (subst (λ es. AreEndsOf merged es told) (sym (ap (map (λ e. e.items)) c.as_slice-2.ensures.value ∙ left.finished.ends)) are),
     )
 
-pub pool-requires-clause-distinct : goal.pool-requires-clause-distinct
-pool-requires-clause-distinct c =
+pub moving_of-requires-clause-distinct : goal.moving_of-requires-clause-distinct
+moving_of-requires-clause-distinct c =
     let left = c.requires.3 in
     let merge = subst (λ ls. IsMerge ls c.in_ok-merged.merged.items) left.finished.logs c.in_ok-merged.ensures in
     (kept-then c.requires.0 c.requires.1 c.args.fixed.made c.requires.2 c.args.finished left c.in_ok-merged.merged.items merge).sound.machine.distinct
 
-pub pool-requires-clause-few : goal.pool-requires-clause-few
-pool-requires-clause-few c =
+pub moving_of-requires-clause-few : goal.moving_of-requires-clause-few
+moving_of-requires-clause-few c =
     let left = c.requires.3 in
     let merge = subst (λ ls. IsMerge ls c.in_ok-merged.merged.items) left.finished.logs c.in_ok-merged.ensures in
     subst (λ n. n < 4294967295) (long-map mail_in (all_posted (inboxes_of c.args.finished.objects.inboxes)))
@@ -54,16 +54,16 @@ machine-requires-clause-left c =
     let merge = subst (λ ls. IsMerge ls c.in_ok-merged.merged.items) left.finished.logs c.in_ok-merged.ensures in
     let kept = kept-then c.requires.0 c.requires.1 c.args.fixed.made c.requires.2 c.args.finished left c.in_ok-merged.merged.items merge in
     let count : length c.in_ok-merged.merged.items ≡ c.len.result = omega (arith, c.len.ensures, c.in_ok-merged.merged.ok.0) in
-    let numbers = c.in_ok-extend_from_slice.ensures.items ∙ ap (λ l. c.args.finished.parted.next.items ++ l) c.as_slice-3.ensures.value in
-    let is = state-joined c.args.finished c.requires.1.setting _ c.in_ok-pool.field-0.mails c.extend_from_slice.new.self.items c.requires.4 c.in_ok-pool.ensures numbers in
+    let moved = c.in_ok-moving.ensures in
+    let is = state-joined c.args.finished c.requires.1.setting c.args.fixed c.in_ok-moving.moving c.requires.4 moved.nodes moved.banks moved.keeper moved.mails moved.numbers in
     subst (λ (U : State). IsLeftByRun U (c.args.fixed.made + c.len.result)) is (subst (λ n. IsLeftByRun (left_in c.requires.1.setting c.args.finished) (c.args.fixed.made + n)) count kept.left)
 
 pub returns : goal.returns
 returns c = λ S M workers left frame.
     let merge = subst (λ ls. IsMerge ls c.in_ok-merged.merged.items) left.finished.logs c.in_ok-merged.ensures in
     let count : length c.in_ok-merged.merged.items ≡ c.len.result = omega (arith, c.len.ensures, c.in_ok-merged.merged.ok.0) in
-    let numbers = c.in_ok-extend_from_slice.ensures.items ∙ ap (λ l. c.args.finished.parted.next.items ++ l) c.as_slice-3.ensures.value in
-    let is = state-joined c.args.finished M.setting _ c.in_ok-pool.field-0.mails c.extend_from_slice.new.self.items frame c.in_ok-pool.ensures numbers in
+    let moved = c.in_ok-moving.ensures in
+    let is = state-joined c.args.finished M.setting c.args.fixed c.in_ok-moving.moving frame moved.nodes moved.banks moved.keeper moved.mails moved.numbers in
     made-round S M c.args.fixed.made workers c.args.finished left c.in_ok-merged.merged c.in_ok-ends.ends c.machine.result merge
     (c.machine.ensures.state ∙ sym is)
     (c.machine.ensures.made ∙ ap (λ n. c.args.fixed.made + n) (sym count))

@@ -7,7 +7,7 @@ use Rattle.host_workers.proofs.inboxes.Inboxes.pool.Goals as goal
 
 pub post_each-requires-clause-distinct : goal.post_each-requires-clause-distinct
 post_each-requires-clause-distinct c =
-    let all = inboxes_of c.args.self in
+    let all = inboxes_of c.args.self.now in
     let whole = subst AreDistinct (all-parts all) c.requires.distinct in
     let cores = distinct-front (all_mails_in all.cores) (all_mails_in all.banks) (distinct-front (all_mails_in all.cores ++ all_mails_in all.banks) (map mail_in all.keeper) whole) in
     let is = ap (λ l. l ++ all_mails_in (map (λ v. v.items) c.as_slice.result.now)) c.new-pool.ensures.mails ∙ ap (λ l. all_mails_in (map (λ v. v.items) l)) c.as_slice.ensures.value in
@@ -15,7 +15,7 @@ post_each-requires-clause-distinct c =
 
 pub post_each-requires-2-clause-distinct : goal.post_each-requires-2-clause-distinct
 post_each-requires-2-clause-distinct c =
-    let all = inboxes_of c.args.self in
+    let all = inboxes_of c.args.self.now in
     let whole = subst AreDistinct (all-parts all) c.requires.distinct in
     let banks = distinct-front (all_mails_in all.cores ++ all_mails_in all.banks) (map mail_in all.keeper) whole in
     let cores-are = ap (λ l. l ++ all_mails_in (map (λ v. v.items) c.as_slice.result.now)) c.new-pool.ensures.mails ∙ ap (λ l. all_mails_in (map (λ v. v.items) l)) c.as_slice.ensures.value in
@@ -24,7 +24,7 @@ post_each-requires-2-clause-distinct c =
 
 pub post_all-requires-clause-distinct : goal.post_all-requires-clause-distinct
 post_all-requires-clause-distinct c =
-    let all = inboxes_of c.args.self in
+    let all = inboxes_of c.args.self.now in
     let whole = subst AreDistinct (all-parts all) c.requires.distinct in
     let cores-are = ap (λ l. l ++ all_mails_in (map (λ v. v.items) c.as_slice.result.now)) c.new-pool.ensures.mails ∙ ap (λ l. all_mails_in (map (λ v. v.items) l)) c.as_slice.ensures.value in
     let banks-are = ap (λ l. l ++ all_mails_in (map (λ v. v.items) c.as_slice-2.result.now)) (c.in_ok-post_each.ensures ∙ cores-are) ∙ ap (λ l. all_mails_in all.cores ++ all_mails_in (map (λ v. v.items) l)) c.as_slice-2.ensures.value in
