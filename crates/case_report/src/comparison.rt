@@ -1,5 +1,5 @@
 /// How a run compares with the flat machine's run by its grants.
-#[derive(Clone, Copy, Debug, PartialEq, Eq)]
+#[derive(Clone, Copy)]
 pub enum Comparison {
     /// Its loads and its ending are the same.
     Agrees,

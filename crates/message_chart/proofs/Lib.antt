@@ -1,3 +1,5 @@
 pub mod Lanes
+pub mod Each
+pub mod Bands
 pub mod Counted
 pub mod Columns

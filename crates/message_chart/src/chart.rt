@@ -4,7 +4,7 @@ use message_net::{Actor, EventKind};
 use rv_core::End;
 
 /// What an event or a mail is about.
-#[derive(Clone, Copy, Debug, PartialEq, Eq)]
+#[derive(Clone, Copy)]
 pub enum About {
     Nothing,
     /// The code word of this number, which is the task's next instruction.
@@ -16,14 +16,14 @@ pub enum About {
 
 /// Where a mail comes from: its sender, and the line of the event that sent it; None if that event is before the chart's first
 /// row.
-#[derive(Clone, Copy, Debug, PartialEq, Eq)]
+#[derive(Clone, Copy)]
 pub struct Origin {
     pub sender: Actor,
     pub line: Option<u32>,
 }
 
 /// The row of an event.
-#[derive(Debug, Drop)]
+#[derive(Drop)]
 pub struct ChartRow {
     /// The event's number in its run, from 0.
     pub event: u32,
@@ -49,7 +49,7 @@ pub struct ChartRow {
 }
 
 /// A mail that an event of the chart sent and none of its events handles.
-#[derive(Clone, Copy, Debug, PartialEq, Eq)]
+#[derive(Clone, Copy)]
 pub struct LeavingMail {
     pub sender: Actor,
     /// The line of the event that sent it.
@@ -62,7 +62,7 @@ pub struct LeavingMail {
 }
 
 /// A task that waits for a lock when the run ends.
-#[derive(Clone, Copy, Debug, PartialEq, Eq)]
+#[derive(Clone, Copy)]
 pub struct WaitingTask {
     pub core: CoreId,
     pub lock: LockId,
@@ -71,7 +71,7 @@ pub struct WaitingTask {
 }
 
 /// The message chart of some events that follow each other in a run.
-#[derive(Debug, Drop)]
+#[derive(Drop)]
 pub struct Chart {
     /// The size of the machine.
     pub shape: Shape,

@@ -28,7 +28,7 @@ pub(crate) fn y_of(line: u32) -> u64
 }
 
 /// A point of the picture, from its upper left corner.
-#[derive(Clone, Copy, Debug)]
+#[derive(Clone, Copy)]
 pub(crate) struct Point {
     pub(crate) x: u64,
     pub(crate) y: u64,

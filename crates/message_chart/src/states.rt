@@ -1,7 +1,7 @@
 use dn_base::{CoreId, WordId};
 
 /// What an actor holds for a data word.
-#[derive(Clone, Copy, Debug, PartialEq, Eq)]
+#[derive(Clone, Copy, PartialEq, Eq)]
 pub enum WordState {
     /// Nothing.
     Absent,
@@ -22,7 +22,7 @@ pub enum WordState {
 }
 
 /// A word for which an actor holds something else after an event than before it.
-#[derive(Clone, Copy, Debug, PartialEq, Eq)]
+#[derive(Clone, Copy)]
 pub struct WordChange {
     pub word: WordId,
     pub before: WordState,

@@ -81,8 +81,29 @@ fn push_states(
     push_events(alloc, out, machine, events)
 }
 
-/// The data of a machine's page.
+/// Adds the data of a machine's page.
 #[tactic(auto, using(crate::proofs::Runs::run_front, crate::proofs::Runs::run_back), unfolding(crate::specs::Page::page_text))]
+fn push_text(
+    alloc: Global,
+    out: &mut Vec<u8>,
+    machine: &mut Machine,
+    events: &[Event],
+    page: &Page<'_>,
+) -> Result<(), Memory>
+    requires initial { machine.old.state ≡ initial_state machine.old.state.setting }
+    requires made { machine.old.made ≡ 0 }
+    requires run { IsRun machine.old.state events.now }
+    requires few { length events.now ≤ 25169664 }
+    ensures { OnOk result (out.new.items ≡ out.old.items ++ page_text machine.old.state.setting events.now page.now) }
+{
+    push_head(alloc, out, machine, page, events.len())?;
+    let (before, rest) = parted(events, page.first);
+    pass(machine, before)?;
+    let (wanted, _) = parted(rest, page.most);
+    push_states(alloc, out, machine, wanted)
+}
+
+/// The data of a machine's page.
 fn text_of(
     alloc: Global,
     machine: Machine,
@@ -97,11 +118,7 @@ fn text_of(
 {
     let mut machine = machine;
     let mut out = Vec::new(alloc);
-    push_head(alloc, &mut out, &machine, page, events.len())?;
-    let (before, rest) = parted(events, page.first);
-    pass(&mut machine, before)?;
-    let (wanted, _) = parted(rest, page.most);
-    push_states(alloc, &mut out, &mut machine, wanted)?;
+    push_text(alloc, &mut out, &mut machine, events, page)?;
     Ok(out)
 }
 

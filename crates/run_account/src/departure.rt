@@ -1,7 +1,7 @@
 use write_signature::Signature;
 
 /// Why a core's entry of a word was removed.
-#[derive(Clone, Copy, Debug, PartialEq, Eq)]
+#[derive(Clone, Copy)]
 pub enum Departure {
     /// At a Go, since the ended phase may have written the word.
     Phase,
@@ -14,7 +14,7 @@ pub enum Departure {
 }
 
 /// How a lock came to the core to which it was last granted.
-#[derive(Clone, Copy, Debug, PartialEq, Eq)]
+#[derive(Clone, Copy)]
 pub enum Handing {
     /// It was free when the core asked for it.
     AtOnce,
@@ -23,7 +23,7 @@ pub enum Handing {
 }
 
 /// When a core drops copies.
-#[derive(Clone, Copy, Debug, PartialEq, Eq)]
+#[derive(Clone, Copy)]
 pub enum Occasion {
     /// At a Go: copies that aren't marked, of the words that the ended phase may have written.
     Go,

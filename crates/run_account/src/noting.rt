@@ -1,5 +1,5 @@
 //! An event is noted.
-ghost use Rattle.std.specs.Prelude.{◌≡◌, ◌+◌, ◌<◌, ◌≤◌, length, Some, None, IfOk, IfSome, IfNone};
+ghost use Rattle.std.specs.Prelude.{◌≡◌, ◌+◌, ◌<◌, ◌≤◌, true, false, length, Some, None, Ok, IfOk, IfSome, IfNone};
 ghost use Rattle.message_net.specs.declared.actor.Actor.TheVariants as actor;
 ghost use Rattle.message_net.specs.declared.event.Event.TheVariants as event;
 ghost use Rattle.message_net.specs.Pool.{removed};
@@ -102,6 +102,28 @@ impl Account {
             Event::Handle(id) => self.note_handle(machine, id),
         }
     }
+
+    /// Notes the events that come on a machine, up to the first that may not come. Returns whether all of them came.
+    ///
+    /// # Errors
+    /// `Memory` where there is no room for the mails.
+    fn note_all(&mut self, machine: &mut Machine, events: &[Event]) -> Result<bool, Memory>
+        requires few { machine.old.made + length events.now ≤ 4000000000 }
+        ensures leads { result ≡ Ok true → self.new ≡ account_of_run machine.old.state self.old events.now }
+        ensures comes { result ≡ Ok true → IsRun machine.old.state events.now }
+        ensures none { result ≡ Ok false → IsRun machine.old.state events.now → ⊥ }
+    {
+        for event in events {
+            // it is noted before it comes, with the state before it
+            self.note(machine, *event);
+            let came = machine.try_step(*event)?;
+            match came {
+                Some(_) => {}
+                None => return Ok(false),
+            }
+        }
+        Ok(true)
+    }
 }
 
 /// The account of the events that come on a machine, in these groups; None if one of them may not come. Fewer than
@@ -122,14 +144,9 @@ pub fn account_of(
 {
     let mut machine = machine;
     let mut account = Account::new(alloc, &machine, by)?;
-    for event in events {
-        // it is noted before it comes, with the state before it
-        account.note(&machine, *event);
-        let came = machine.try_step(*event)?;
-        match came {
-            Some(_) => {}
-            None => return Ok(None),
-        }
+    if account.note_all(&mut machine, events)? {
+        Ok(Some(account))
+    } else {
+        Ok(None)
     }
-    Ok(Some(account))
 }

@@ -7,7 +7,7 @@ use word_cache::Entry;
 use write_signature::Signature;
 
 /// One change of an actor's state, or what its event read or wrote.
-#[derive(Debug, Drop)]
+#[derive(Drop)]
 pub enum Change {
     /// The core no longer has an entry of the word.
     Gone(WordId),
@@ -61,14 +61,14 @@ pub enum Change {
 }
 
 /// Changes of an actor.
-#[derive(Debug, Drop)]
+#[derive(Drop)]
 pub struct ActorChanges {
     pub actor: Actor,
     pub changes: Sequence<Change>,
 }
 
 /// An event that was made: its actor, its kind, the changes of the actor's state, and what the actor sent.
-#[derive(Debug, Drop)]
+#[derive(Drop)]
 pub struct EventMade {
     pub actor: Actor,
     pub kind: EventKind,

@@ -6,14 +6,14 @@ use word_cache::Entry;
 use write_signature::Signature;
 
 /// A word, and the entry that a core has of it before an event.
-#[derive(Clone, Copy, Debug, PartialEq, Eq)]
+#[derive(Clone, Copy)]
 pub struct EntryBefore {
     pub word: WordId,
     pub entry: Option<Entry>,
 }
 
 /// A node before an event: all that the event may change of it.
-#[derive(Debug, Drop)]
+#[derive(Drop)]
 pub struct NodeLook {
     pub phase: PhaseId,
     pub task: Option<TaskState>,
@@ -28,7 +28,7 @@ pub struct NodeLook {
 }
 
 /// A lock's home before an event: the holder, how many cores wait, and the signature.
-#[derive(Clone, Copy, Debug, PartialEq, Eq)]
+#[derive(Clone, Copy)]
 pub struct LockLook {
     pub holder: Option<CoreId>,
     pub waiting: usize,
@@ -36,7 +36,7 @@ pub struct LockLook {
 }
 
 /// What is looked at of an event's actor before the event.
-#[derive(Debug, Drop)]
+#[derive(Drop)]
 pub enum Look {
     /// Nothing: the event changes nothing in an actor's state.
     Nothing,

@@ -11,7 +11,7 @@ use message_net::{Actor, Event, Mail, MailId, Message, Pool};
 use rv_core::Need;
 
 /// The words for which an event may change what its actor holds.
-#[derive(Clone, Copy, Debug)]
+#[derive(Clone, Copy)]
 pub(crate) enum Affected {
     Nothing,
     Word(WordId),

@@ -23,7 +23,7 @@ use std::alloc::Global;
 use std::mem;
 
 /// Which events have rows: the number of the first, from 0, and the greatest number of rows, up to 4,096.
-#[derive(Clone, Copy, Debug, PartialEq, Eq)]
+#[derive(Clone, Copy, PartialEq, Eq)]
 pub struct Range {
     pub first: u32,
     pub most: u32,

@@ -15,7 +15,7 @@ use registration_protocol::NodeWait;
 use std::alloc::Global;
 
 /// Which banks have a column.
-#[derive(Clone, Copy, Debug, PartialEq, Eq)]
+#[derive(Clone, Copy)]
 pub enum Columns {
     /// All of them.
     All,

@@ -8,7 +8,7 @@ use message_net::{Event, MailId, Pool};
 use std::alloc::Global;
 
 /// A mail in flight, and the line of the event that sent it; None if that event has no row.
-#[derive(Clone, Copy, Debug)]
+#[derive(Clone, Copy)]
 pub(crate) struct SentMail {
     pub(crate) id: MailId,
     pub(crate) line: Option<u32>,

@@ -93,7 +93,7 @@ fn word_state(machine: &Machine, actor: Actor, word: WordId) -> WordState
 }
 
 /// A word, and what an actor has for it.
-#[derive(Clone, Copy, Debug)]
+#[derive(Clone, Copy)]
 pub(crate) struct HeldWord {
     pub(crate) word: WordId,
     pub(crate) state: WordState,

@@ -1,5 +1,5 @@
 /// The state before an event, as text.
-#[derive(Debug, Drop)]
+#[derive(Drop)]
 pub struct StateAnswer {
     /// The number of the event, from 0, before which the state is: the one that was asked for, or the first that may not come.
     pub event: u32,

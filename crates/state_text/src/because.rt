@@ -10,29 +10,29 @@ use place_texts::push_lock;
 use region_table::Program;
 use text_pieces::push;
 
-/// Adds what stands before the words or the lock that a reason names.
+/// What stands before the words or the lock that a reason names.
 #[tactic(auto, unfolding(crate::specs::Because::reason_before))]
-fn push_before(out: &mut Vec<u8>, reason: Reason) -> Result<(), Memory>
-    ensures { OnOk result (out.new.items ≡ out.old.items ++ reason_before reason) }
+fn text_before(reason: Reason) -> &'static [u8]
+    ensures { result.now ≡ reason_before reason }
 {
     match reason {
-        Reason::NoCore => push(out, b"isn't there"),
-        Reason::Halted => push(out, b"is halted"),
-        Reason::Arrived => push(out, b"has arrived"),
-        Reason::NoTask => push(out, b"has no task"),
-        Reason::TaskEnded => push(out, b"has a task that has ended"),
-        Reason::TaskRuns => push(out, b"has a task that goes on"),
-        Reason::WaitsForWord(_) => push(out, b"waits for "),
-        Reason::WaitsForLock(_) => push(out, b"waits for "),
-        Reason::HasValue(_) => push(out, b"has the value of "),
-        Reason::IsLeaving(_) => push(out, b"has "),
-        Reason::IsPending(_) => push(out, b"has "),
-        Reason::NoEntry(_) => push(out, b"has no entry of "),
-        Reason::NoRoom(_) => push(out, b"has no room for "),
-        Reason::HasPending => push(out, b"has pending entries"),
-        Reason::NeedsNoRoom => push(out, b"needs no room"),
-        Reason::OtherSet { .. } => push(out, b"needs room for "),
-        Reason::NoMail => push(out, b"isn't in flight"),
+        Reason::NoCore => b"isn't there",
+        Reason::Halted => b"is halted",
+        Reason::Arrived => b"has arrived",
+        Reason::NoTask => b"has no task",
+        Reason::TaskEnded => b"has a task that has ended",
+        Reason::TaskRuns => b"has a task that goes on",
+        Reason::WaitsForWord(_) => b"waits for ",
+        Reason::WaitsForLock(_) => b"waits for ",
+        Reason::HasValue(_) => b"has the value of ",
+        Reason::IsLeaving(_) => b"has ",
+        Reason::IsPending(_) => b"has ",
+        Reason::NoEntry(_) => b"has no entry of ",
+        Reason::NoRoom(_) => b"has no room for ",
+        Reason::HasPending => b"has pending entries",
+        Reason::NeedsNoRoom => b"needs no room",
+        Reason::OtherSet { .. } => b"needs room for ",
+        Reason::NoMail => b"isn't in flight",
     }
 }
 
@@ -74,16 +74,16 @@ fn push_names(out: &mut Vec<u8>, program: &Program, reason: Reason) -> Result<()
     }
 }
 
-/// Adds the words after them.
+/// What stands after them.
 #[tactic(auto, unfolding(crate::specs::Because::reason_behind))]
-fn push_behind(out: &mut Vec<u8>, reason: Reason) -> Result<(), Memory>
-    ensures { OnOk result (out.new.items ≡ out.old.items ++ reason_behind reason) }
+fn text_behind(reason: Reason) -> &'static [u8]
+    ensures { result.now ≡ reason_behind reason }
 {
     match reason {
-        Reason::HasValue(_) => push(out, b", and its instruction comes first"),
-        Reason::IsLeaving(_) => push(out, b" leaving"),
-        Reason::IsPending(_) => push(out, b" pending"),
-        _ => Ok(()),
+        Reason::HasValue(_) => b", and its instruction comes first",
+        Reason::IsLeaving(_) => b" leaving",
+        Reason::IsPending(_) => b" pending",
+        _ => b"",
     }
 }
 
@@ -92,9 +92,9 @@ fn push_behind(out: &mut Vec<u8>, reason: Reason) -> Result<(), Memory>
 fn push_reason(out: &mut Vec<u8>, program: &Program, reason: Reason) -> Result<(), Memory>
     ensures { OnOk result (out.new.items ≡ out.old.items ++ reason_text program.now reason) }
 {
-    push_before(out, reason)?;
+    push(out, text_before(reason))?;
     push_names(out, program, reason)?;
-    push_behind(out, reason)
+    push(out, text_behind(reason))
 }
 
 /// Adds whose event it is.

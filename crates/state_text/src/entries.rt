@@ -18,14 +18,15 @@ fn push_flag(out: &mut Vec<u8>, word: &[u8], flag: bool) -> Result<(), Memory>
     if flag { push(out, word) } else { Ok(()) }
 }
 
+/// The word for an entry's state.
 #[tactic(auto, unfolding(crate::specs::Cores::entry_word))]
-fn push_entry_word(out: &mut Vec<u8>, entry: Entry) -> Result<(), Memory>
-    ensures { OnOk result (out.new.items ≡ out.old.items ++ entry_word entry) }
+fn entry_word(entry: Entry) -> &'static [u8]
+    ensures { result.now ≡ entry_word entry }
 {
     match entry {
-        Entry::Valid { .. } => push(out, b"valid "),
-        Entry::Registered { .. } => push(out, b"registered "),
-        Entry::Leaving(_) => push(out, b"leaving "),
+        Entry::Valid { .. } => b"valid ",
+        Entry::Registered { .. } => b"registered ",
+        Entry::Leaving(_) => b"leaving ",
     }
 }
 
@@ -55,7 +56,7 @@ fn push_entry_flag(out: &mut Vec<u8>, entry: Entry) -> Result<(), Memory>
 fn push_entry(out: &mut Vec<u8>, entry: Entry) -> Result<(), Memory>
     ensures { OnOk result (out.new.items ≡ out.old.items ++ entry_text entry) }
 {
-    push_entry_word(out, entry)?;
+    push(out, entry_word(entry))?;
     push_hexadecimal(out, value_of_entry(entry))?;
     push_entry_flag(out, entry)
 }

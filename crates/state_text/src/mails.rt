@@ -1,5 +1,5 @@
 //! The lines of the mails in flight.
-ghost use Rattle.std.specs.Prelude.{◌≡◌, ◌++◌, flat_map, OnOk};
+ghost use Rattle.std.specs.Prelude.{◌≡◌, ◌++◌, [], flat_map, codes, if◌then◌else◌, OnOk};
 ghost use Rattle.state_text.specs.Parts.{of_word, of_core, of_value, of_lock, of_phase, message_parts, in_flight_line, carried_lines, mail_lines};
 
 use crate::called::{push_core, push_data_word, push_mail, push_receiver};
@@ -53,6 +53,64 @@ fn push_of_phase(out: &mut Vec<u8>, phase: PhaseId) -> Result<(), Memory>
     push_decimal(out, phase.0)
 }
 
+fn push_word_and_core(
+    out: &mut Vec<u8>,
+    program: &Program,
+    word: WordId,
+    core: CoreId,
+) -> Result<(), Memory>
+    ensures { OnOk result (out.new.items ≡ out.old.items ++ (of_word program.now word.0 ++ of_core core.0)) }
+{
+    push_of_word(out, program, word)?;
+    push_of_core(out, core)
+}
+
+fn push_word_and_value(
+    out: &mut Vec<u8>,
+    program: &Program,
+    word: WordId,
+    value: u32,
+) -> Result<(), Memory>
+    ensures { OnOk result (out.new.items ≡ out.old.items ++ (of_word program.now word.0 ++ of_value value)) }
+{
+    push_of_word(out, program, word)?;
+    push_of_value(out, value)
+}
+
+/// Adds a word, the value that its registrant gives back, and the registrant.
+fn push_given_back(
+    out: &mut Vec<u8>,
+    program: &Program,
+    word: WordId,
+    value: u32,
+    core: CoreId,
+) -> Result<(), Memory>
+    ensures { OnOk result (out.new.items ≡ out.old.items ++ (of_word program.now word.0 ++ (of_value value ++ of_core core.0))) }
+{
+    push_word_and_value(out, program, word, value)?;
+    push_of_core(out, core)
+}
+
+fn push_lock_and_core(
+    out: &mut Vec<u8>,
+    program: &Program,
+    lock: LockId,
+    core: CoreId,
+) -> Result<(), Memory>
+    ensures { OnOk result (out.new.items ≡ out.old.items ++ (of_lock program.now lock.0 ++ of_core core.0)) }
+{
+    push_of_lock(out, program, lock)?;
+    push_of_core(out, core)
+}
+
+/// Adds a core that has arrived, and whether its task was bad.
+fn push_arrival(out: &mut Vec<u8>, core: CoreId, bad: bool) -> Result<(), Memory>
+    ensures { OnOk result (out.new.items ≡ out.old.items ++ (of_core core.0 ++ (if bad then codes " bad" else []))) }
+{
+    push_of_core(out, core)?;
+    if bad { push(out, b" bad") } else { Ok(()) }
+}
+
 /// Adds what follows the word for a message's kind.
 fn push_parts(out: &mut Vec<u8>, program: &Program, message: Message) -> Result<(), Memory>
     ensures { OnOk result (out.new.items ≡ out.old.items ++ message_parts program.now message) }
@@ -61,29 +119,17 @@ fn push_parts(out: &mut Vec<u8>, program: &Program, message: Message) -> Result<
         Message::ReadReq { word, reader: core }
         | Message::ReadFwd { word, reader: core }
         | Message::RegReq { word, core }
-        | Message::RegFwd { word, core } => {
-            push_of_word(out, program, word)?;
-            push_of_core(out, core)
-        }
-        Message::DataReply { word, value } => {
-            push_of_word(out, program, word)?;
-            push_of_value(out, value)
-        }
+        | Message::RegFwd { word, core } => push_word_and_core(out, program, word, core),
+        Message::DataReply { word, value } => push_word_and_value(out, program, word, value),
         Message::RegAck { word } | Message::WbAck { word } => push_of_word(out, program, word),
-        Message::WriteBack { word, value, core } => {
-            push_of_word(out, program, word)?;
-            push_of_value(out, value)?;
-            push_of_core(out, core)
-        }
+        Message::WriteBack { word, value, core } => push_given_back(
+            out, program, word, value, core,
+        ),
         Message::Acquire { lock, core } | Message::Release { lock, core, .. } => {
-            push_of_lock(out, program, lock)?;
-            push_of_core(out, core)
+            push_lock_and_core(out, program, lock, core)
         }
         Message::Grant { lock, .. } => push_of_lock(out, program, lock),
-        Message::Arrived { core, bad } => {
-            push_of_core(out, core)?;
-            if bad { push(out, b" bad") } else { Ok(()) }
-        }
+        Message::Arrived { core, bad } => push_arrival(out, core, bad),
         Message::Go { phase } => push_of_phase(out, phase),
         Message::Halt => Ok(()),
     }

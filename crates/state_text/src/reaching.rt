@@ -1,7 +1,8 @@
 //! The state before an event of a document.
-ghost use Rattle.std.specs.Prelude.{◌≡◌, ◌≤◌, length, IfOk};
+ghost use Rattle.std.specs.Prelude.{◌≡◌, ◌≤◌, length, take, IfOk};
 ghost use Rattle.dn_machine.specs.Sizes.{FitsMachine};
 ghost use Rattle.state_text.specs.Reached.{IsFollowed, IsAnswerOf};
+ghost use Rattle.state_text.specs.Shown.{shown_text};
 
 use crate::answer::StateAnswer;
 use crate::showing::shown;
@@ -33,6 +34,29 @@ fn follow(machine: &mut Machine, events: &[Event]) -> Result<u32, Memory>
     Ok(came)
 }
 
+/// The state of a machine before the event of a number, as text; or before an earlier event, if that is the first that may not come.
+///
+/// # Errors
+/// `Memory` if there is no room for the mails or the text.
+fn answer_of(
+    alloc: Global,
+    machine: &mut Machine,
+    places: &Places,
+    events: &[Event],
+    asked: u32,
+) -> Result<StateAnswer, Memory>
+    requires made { machine.old.made ≡ 0 }
+    requires few { length events.now ≤ 25169664 }
+    requires asked { asked ≤ length events.now }
+    ensures followed { IfOk result (λ answer. IsFollowed machine.old.state machine.new.state (take asked events.now) answer.event) }
+    ensures text { IfOk result (λ answer. answer.text.items ≡ shown_text places.now machine.new.state events.now asked answer.event) }
+{
+    let (before, _) = events.split_at(asked as usize);
+    let event = follow(machine, before)?;
+    let text = shown(alloc, machine, places, events, asked, event)?;
+    Ok(StateAnswer { event, text })
+}
+
 /// The state before the event of a number, from 0, as text; or before an earlier event, if that is the first that may not come.
 /// The number of all events asks for the state after the last one. The reason against the event is true, and exactly the events
 /// that may come are listed.
@@ -61,10 +85,8 @@ pub fn state_at(
     let mut machine = Machine::start(alloc, checked, shape, fuel)?;
     // for the proof alone: no event has come, so the machine is the opened one, and its setting is ready
     a_machine_is_kept(&machine);
-    let (before, _) = events.split_at(asked as usize);
-    let event = follow(&mut machine, before)?;
+    let answer = answer_of(alloc, &mut machine, places, events, asked)?;
     // for the proof alone: the state is one of the machine, as the clause says of its reasons and of the events that are listed
     a_machine_is_kept(&machine);
-    let text = shown(alloc, &machine, places, events, asked, event)?;
-    Ok(StateAnswer { event, text })
+    Ok(answer)
 }

@@ -1,7 +1,7 @@
 use message_net::MailId;
 
 /// The owner of a signature that is printed.
-#[derive(Clone, Copy, Debug, PartialEq, Eq)]
+#[derive(Clone, Copy)]
 pub(crate) enum Signed {
     /// The lock of this number, at its home.
     Lock(u32),

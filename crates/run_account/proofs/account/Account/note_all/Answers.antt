@@ -1,8 +1,8 @@
 use Rattle.std.proofs.Common.{◌≡◌, ◌+◌, ◌<◌, length, Ok, ap, arith}
 use Rattle.machine_rules.specs.Runs.{IsRun}
-use Rattle.run_account.specs.Account.{no_account, account_of_run}
+use Rattle.run_account.specs.Account.{account_of_run}
 use Rattle.run_account.proofs.Whole.{tried-some, one-led, one-comes, one-came}
-use Rattle.run_account.proofs.noting.account_of.Goals as goal
+use Rattle.run_account.proofs.account.Account.note_all.Goals as goal
 
 pub loop-event-preserved : goal.loop-event-preserved
 loop-event-preserved c =
@@ -11,14 +11,14 @@ loop-event-preserved c =
     let more : c.try_step.new.self.made ≡ c.loop-event.machine.made + 1 = c.in_ok-came.ensures.came c.in-Some.field-0 (ap Ok c.in-Some.is) in
     record {
       leads =
-          one-led c.loop-event.machine.state c.try_step.new.self.state c.loop-event.account c.note.new.self
-          (account_of_run c.args.machine.state (no_account c.args.machine.state.setting c.args.by) c.args.events.now)
+          one-led c.loop-event.machine.state c.try_step.new.self.state c.loop-event.self c.note.new.self
+          (account_of_run c.args.machine.now.state c.args.self.now c.args.events.now)
           c.args.events.now c.loop-event.event-index _ inside stepped.state c.note.ensures c.loop-event.invariant.leads;
       comes =
-          one-comes c.loop-event.machine.state c.try_step.new.self.state (IsRun c.args.machine.state c.args.events.now)
+          one-comes c.loop-event.machine.state c.try_step.new.self.state (IsRun c.args.machine.now.state c.args.events.now)
           c.args.events.now c.loop-event.event-index _ inside stepped.state stepped.may c.loop-event.invariant.comes;
       came =
-          one-came c.loop-event.machine.state c.try_step.new.self.state (IsRun c.args.machine.state c.args.events.now)
+          one-came c.loop-event.machine.state c.try_step.new.self.state (IsRun c.args.machine.now.state c.args.events.now)
           c.args.events.now c.loop-event.event-index _ inside stepped.state c.loop-event.invariant.came;
       made = omega (arith, more, c.loop-event.invariant.made);
     }
