@@ -3,7 +3,7 @@ use dn_base::{CoreId, PhaseId, WordId};
 
 /// One item of an account: the measure that it counts for, its core, the phase of that core, and the word that it is about, if
 /// any.
-#[derive(Clone, Copy, Debug, PartialEq, Eq)]
+#[derive(Clone, Copy)]
 pub struct Item {
     pub measure: Measure,
     pub phase: PhaseId,
@@ -12,7 +12,7 @@ pub struct Item {
 }
 
 /// The groups of an account. They are numbered from 0.
-#[derive(Clone, Copy, Debug, PartialEq, Eq)]
+#[derive(Clone, Copy)]
 pub enum Grouping {
     /// One group: the whole run.
     Run,

@@ -2,7 +2,7 @@ ghost use Rattle.std.specs.Prelude.{◌≡◌, ◌<◌};
 ghost use Rattle.account_table.specs.Measure.{measure_index};
 
 /// What an account counts, in the order in which it is printed. A copy is a Valid entry.
-#[derive(Clone, Copy, Debug, PartialEq, Eq)]
+#[derive(Clone, Copy)]
 pub enum Measure {
     /// Loads that retire.
     Loads,

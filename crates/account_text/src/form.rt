@@ -1,5 +1,5 @@
 /// How an account is printed.
-#[derive(Clone, Copy, Debug, PartialEq, Eq)]
+#[derive(Clone, Copy)]
 pub enum Form {
     /// A table for readers: a row for each measure and a column for each group.
     Text,

@@ -3,7 +3,7 @@ use message_net::EventKind;
 use rv_core::TaskEnd;
 
 /// What is counted of a run.
-#[derive(Clone, Copy, Debug, PartialEq, Eq)]
+#[derive(Clone, Copy)]
 pub enum Count {
     /// Its data words.
     Words,
@@ -24,7 +24,7 @@ pub enum Count {
 }
 
 /// A line without a number.
-#[derive(Clone, Copy, Debug, PartialEq, Eq)]
+#[derive(Clone, Copy)]
 pub enum FixedLine {
     /// No run of the program ends a task by the trap `outside`.
     Inside,
@@ -41,7 +41,7 @@ pub enum FixedLine {
 }
 
 /// An event of the longest chain.
-#[derive(Clone, Copy, Debug, PartialEq, Eq)]
+#[derive(Clone, Copy)]
 pub struct Link {
     /// The number of the event, from 0.
     pub event: u32,
@@ -51,7 +51,7 @@ pub struct Link {
 }
 
 /// A line that says something of a run, of a program, or of a refused document or command.
-#[derive(Clone, Copy, Debug, PartialEq, Eq)]
+#[derive(Clone, Copy)]
 pub enum AnswerLine {
     /// How the run ended.
     Outcome(Outcome),

@@ -39,7 +39,7 @@ pub struct Case {
 }
 
 /// What a case's lines add to.
-#[derive(Clone, Copy, PartialEq, Eq)]
+#[derive(Clone, Copy)]
 enum Open {
     Nothing,
     Text,

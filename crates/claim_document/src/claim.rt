@@ -6,14 +6,14 @@ use std::alloc::{AllocError, AllocFailed};
 
 /// What a claim is about: the program of a source text of at most 1,048,576 bytes, each of whose tasks may retire `fuel`
 /// instructions, from 1 to 32,768.
-#[derive(Debug, Drop)]
+#[derive(Drop)]
 pub struct Question {
     pub fuel: u32,
     pub text: Sequence<u8>,
 }
 
 /// What determines a run: a question, and the order in which locks are granted.
-#[derive(Debug, Drop)]
+#[derive(Drop)]
 pub struct GrantOrder {
     pub question: Question,
     pub grants: Sequence<Grant>,
@@ -21,7 +21,7 @@ pub struct GrantOrder {
 
 /// What a simulator says of a run: the order of its lock grants; the loads of each task that started, in the order of the
 /// phases and cores, or None if nothing is said of loads; and the answer, as the mode run prints it.
-#[derive(Debug, Drop)]
+#[derive(Drop)]
 pub struct Claim {
     pub question: Question,
     pub grants: Sequence<Grant>,
@@ -31,7 +31,7 @@ pub struct Claim {
 
 /// Why some bytes are no claim, or no prefix of a claim that stands alone. The first of these that is true of the bytes is
 /// given.
-#[derive(Clone, Copy, Debug, PartialEq, Eq)]
+#[derive(Clone, Copy)]
 pub enum ClaimFault {
     /// There are more than 536,870,912 bytes.
     TooLarge,
@@ -83,7 +83,7 @@ impl<T: Drop> From<AllocFailed<T>> for ClaimFault {
 }
 
 /// Why the document of a claim isn't written.
-#[derive(Clone, Copy, Debug, PartialEq, Eq)]
+#[derive(Clone, Copy)]
 pub enum ClaimTextError {
     /// It would have more than 536,870,912 bytes.
     TooLarge,

@@ -9,7 +9,7 @@ use run_report::answer_text;
 use std::alloc::Global;
 
 /// The result of a list of grants, as a claim.
-#[derive(Debug, Drop)]
+#[derive(Drop)]
 pub enum RightClaim {
     /// The list is legal and whole, and this is the claim of the run by it, with all its loads.
     Whole(Claim),

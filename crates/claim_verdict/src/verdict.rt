@@ -2,7 +2,7 @@ use dn_base::{CoreId, LoadSeen, PhaseId, Sequence};
 
 /// A load of a run: the task of a core in a phase, and the number of the load, from 0, in the order in which the task's loads
 /// retire.
-#[derive(Clone, Copy, Debug, PartialEq, Eq)]
+#[derive(Clone, Copy, Debug)]
 pub struct LoadPlace {
     pub phase: PhaseId,
     pub core: CoreId,

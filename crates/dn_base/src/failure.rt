@@ -1,7 +1,7 @@
 use std::alloc::{AllocError, AllocFailed};
 
 /// A call of a device failed. It moved no bytes.
-#[derive(Clone, Copy, Debug, PartialEq, Eq)]
+#[derive(Clone, Copy, PartialEq, Eq)]
 pub struct Failed;
 
 /// There wasn't enough memory. Borrowed values are as before the call, unless the call says otherwise.

@@ -36,7 +36,7 @@ pub struct LoadSeen {
 /// The size of a simulated machine: how many cores and banks it has, and how many sets and ways each core's cache has.
 ///
 /// A plain value. The calls that take a shape require 1 to 16 cores, 1 to 16 banks, 1 to 256 sets and 1 to 16 ways.
-#[derive(Clone, Copy, Debug, PartialEq, Eq)]
+#[derive(Clone, Copy, PartialEq, Eq)]
 pub struct Shape {
     pub cores: u32,
     pub banks: u32,

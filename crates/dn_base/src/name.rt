@@ -5,7 +5,7 @@ use std::alloc::Global;
 use std::marker::Model;
 
 /// A name that a program declares: its bytes, which contracts see as a list of numbers.
-#[derive(Clone, Debug, Drop)]
+#[derive(Clone, Drop)]
 pub struct Name {
     bytes: Vec<u8>,
 }

@@ -75,7 +75,7 @@ pub trait Gate {
 }
 
 /// A gate that does nothing.
-#[derive(Clone, Copy, Debug, PartialEq, Eq)]
+#[derive(Clone, Copy, PartialEq, Eq)]
 pub struct OpenGate;
 
 impl Gate for OpenGate {

@@ -2,7 +2,7 @@ ghost use Rattle.std.specs.Prelude.{◌≡◌};
 ghost use Rattle.dn_base.specs.Status.{exit_code_of, status_of};
 
 /// How the program ended. The exit code is the status's number (this project's profile).
-#[derive(Clone, Copy, Debug, PartialEq, Eq)]
+#[derive(Clone, Copy, PartialEq, Eq)]
 pub enum Status {
     /// Every task finished, or the mode runs no program.
     Done = 0,

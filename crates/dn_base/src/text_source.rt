@@ -10,7 +10,7 @@ use std::alloc::Global;
 use std::marker::Model;
 
 /// A text in memory as a source, for tests. It gives a few bytes at a time, and fails at the calls that the test chooses.
-#[derive(Debug, Drop)]
+#[derive(Drop)]
 pub struct TextSource {
     bytes: Vec<u8>,
     place: usize,

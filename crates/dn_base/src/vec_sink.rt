@@ -11,7 +11,7 @@ use std::alloc::Global;
 use std::marker::Model;
 
 /// A sink in memory, for tests. It has a fixed room, takes a few bytes at a time, and fails at the calls that the test chooses.
-#[derive(Debug, Drop)]
+#[derive(Drop)]
 pub struct VecSink {
     bytes: Vec<u8>,
     flushed: bool,

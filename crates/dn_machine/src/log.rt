@@ -20,7 +20,7 @@ const FIRST_EVENTS: usize = 65536;
 
 /// An event that came: what was observed of it, and how the task of the core that it changed stands, if that has ended or waits
 /// for a lock.
-#[derive(Clone, Copy, Debug)]
+#[derive(Clone, Copy)]
 pub struct Happened {
     pub event: Event,
     pub observed: Stepped,
@@ -29,7 +29,7 @@ pub struct Happened {
 
 /// What a run notes of its events: the events, the grants, how many events of each kind there were, and how each task stood
 /// when its node last had it, in a table with a place for each phase and each of 16 cores.
-#[derive(Debug, Drop)]
+#[derive(Drop)]
 pub struct Log {
     pub events: Sequence<Event>,
     pub grants: Sequence<Grant>,

@@ -6,7 +6,7 @@ use crate::own_row::OwnRow;
 use message_net::{Event, Pool};
 
 /// What a draw picks: the own event of a core, or the handling of the mail at a place of the pool.
-#[derive(Clone, Copy, Debug)]
+#[derive(Clone, Copy)]
 pub(crate) enum Choice {
     Own(Event),
     Mail(u32),

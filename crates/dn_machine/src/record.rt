@@ -5,7 +5,7 @@ use rv_core::Ending;
 
 /// A run: its events, the grants in the order in which the cores handled them, how many events of each kind there were, and
 /// its ending.
-#[derive(Debug, Drop)]
+#[derive(Drop)]
 pub struct RunRecord {
     pub events: Sequence<Event>,
     pub grants: Sequence<Grant>,

@@ -15,7 +15,7 @@ use std::marker::Model;
 /// - A word is guarded by at most one lock.
 ///
 /// Contracts see the program. Every `Checked` is checked.
-#[derive(Debug, Drop)]
+#[derive(Drop)]
 pub struct Checked {
     program: Program,
 }

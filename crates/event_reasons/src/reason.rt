@@ -1,7 +1,7 @@
 use dn_base::{LockId, WordId};
 
 /// Why an event may not come. Each reason but the last is about the core whose event it is.
-#[derive(Clone, Copy, Debug, PartialEq, Eq)]
+#[derive(Clone, Copy)]
 pub enum Reason {
     /// The machine has no such core.
     NoCore,

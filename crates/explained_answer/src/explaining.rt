@@ -24,7 +24,7 @@ use std::alloc::Global;
 use text_places::{Located, located_program};
 
 /// The result of explaining an answer.
-#[derive(Debug, Drop)]
+#[derive(Drop)]
 pub enum Explained {
     /// Its lines, each with what is said of it.
     Text(Sequence<u8>),

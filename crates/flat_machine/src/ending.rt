@@ -9,7 +9,7 @@ use rv_core::{EndShown, Ending, Need, TaskEnd};
 use std::alloc::Global;
 
 /// The loads of a task in the order in which they retired: each with the data word and the value of that whole word.
-#[derive(Debug, Drop)]
+#[derive(Drop)]
 pub struct TaskLoads {
     pub phase: PhaseId,
     pub core: CoreId,
@@ -17,7 +17,7 @@ pub struct TaskLoads {
 }
 
 /// A whole run: its ending, and the loads of the tasks that started, in the order of their phases and cores.
-#[derive(Debug, Drop)]
+#[derive(Drop)]
 pub struct FlatEnd {
     pub ending: Ending,
     pub loads: Sequence<TaskLoads>,

@@ -16,7 +16,7 @@ use std::alloc::Global;
 use std::marker::Model;
 
 /// The flat machine between two grants.
-#[derive(Debug, Drop)]
+#[derive(Drop)]
 pub(crate) struct Machine<'a> {
     /// How many phases have begun.
     begun: u32,

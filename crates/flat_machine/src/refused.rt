@@ -14,7 +14,7 @@ use rv_core::DecodedCode;
 use std::alloc::Global;
 
 /// The result of a list of grants.
-#[derive(Debug, Drop)]
+#[derive(Drop)]
 pub enum FlatRun {
     /// The list is legal and whole. The run by it has this end.
     Whole(FlatEnd),

@@ -13,7 +13,7 @@ use std::alloc::Global;
 use std::marker::Model;
 
 /// A task that has started.
-#[derive(Debug, Drop)]
+#[derive(Drop)]
 pub(crate) struct Running<'a> {
     pub(crate) phase: PhaseId,
     pub(crate) decl: &'a TaskDecl,

@@ -61,7 +61,7 @@ pub fn least_grants(alloc: Global, checked: &Checked, fuel: u32) -> Result<Vec<G
 }
 
 /// The run by the least list: the list, and the end.
-#[derive(Debug, Drop)]
+#[derive(Drop)]
 pub struct LeastRun {
     pub grants: Vec<Grant>,
     pub end: FlatEnd,

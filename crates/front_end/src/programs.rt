@@ -16,7 +16,7 @@ use rv_assembler::{SourceFault, assemble};
 use std::alloc::Global;
 
 /// Why a text or a document gives no result.
-#[derive(Debug, Drop)]
+#[derive(Drop)]
 pub enum Stop {
     /// It is refused with this line.
     Refused(Sequence<u8>),

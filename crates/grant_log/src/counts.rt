@@ -5,7 +5,7 @@ use crate::log::Stamped;
 use message_net::EventKind;
 
 /// How many events of each kind there were, in the order in which `EventKind` names the kinds.
-#[derive(Clone, Copy, Debug, PartialEq, Eq)]
+#[derive(Clone, Copy, PartialEq, Eq)]
 pub struct Counts {
     pub kinds: [u64; 17],
 }

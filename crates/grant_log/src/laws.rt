@@ -16,7 +16,7 @@ pub fn an_event_raises_its_kind_alone()
     ensures sum { (k : EventKind) (counts : Counts) → length counts.kinds ≡ 17 → sum (added k counts).kinds ≡ sum counts.kinds + 1 }
 {}
 
-/// A list of events has exactly one `Counts`, and its counts add up to the list's length.
+/// A list of events has at most one `Counts`, and its counts add up to the list's length.
 pub fn counts_add_up()
     ensures sum { (kinds : List EventKind) (counts : Counts) → length counts.kinds ≡ 17 → AreCounts kinds counts → sum counts.kinds ≡ length kinds }
     ensures one { (kinds : List EventKind) (counts other : Counts) → length counts.kinds ≡ 17 → length other.kinds ≡ 17
@@ -28,7 +28,7 @@ pub fn stamps_come_first()
     ensures { (a b : Stamped) → a.stamp < b.stamp → IsBefore a b }
 {}
 
-/// Logs have only one merge.
+/// Logs have at most one merge.
 pub fn a_merge_is_the_only_one()
     ensures { (logs : List (List Stamped)) (merged other : List Stamped) → IsMerge logs merged → IsMerge logs other → merged ≡ other }
 {}

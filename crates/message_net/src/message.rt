@@ -87,7 +87,7 @@ pub struct Mail {
 }
 
 /// A message that an actor sends, and where it goes.
-#[derive(Clone, Copy, Debug, PartialEq, Eq)]
+#[derive(Clone, Copy, PartialEq, Eq)]
 pub struct Outgoing {
     pub to: Actor,
     pub message: Message,

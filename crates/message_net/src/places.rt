@@ -15,7 +15,7 @@ const BUCKETS: usize = 65536;
 /// The mails of a bucket make a chain, the last one noted first. Chains are short in whatever order mails are handled: an actor
 /// numbers its mails one by one, so every 65,536th of them has the same bucket. After n events one actor has at most n / 65,536
 /// + 1 mails in one bucket.
-#[derive(Debug, Drop)]
+#[derive(Drop)]
 pub(crate) struct Places {
     /// The place with which each bucket's chain begins.
     first: Vec<Option<u32>>,

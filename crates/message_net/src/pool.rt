@@ -16,7 +16,7 @@ use std::marker::Model;
 /// searched.
 ///
 /// Contracts see the list of mails and `spare`: for how many more mails there is room.
-#[derive(Debug, Drop)]
+#[derive(Drop)]
 pub struct Pool {
     row: Vec<Mail>,
     places: Option<Places>,

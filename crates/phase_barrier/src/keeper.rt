@@ -34,7 +34,7 @@ impl Verdict {
 /// ran out of fuel.
 ///
 /// Contracts see these, and the number of phases.
-#[derive(Debug, Drop)]
+#[derive(Drop)]
 pub struct Keeper {
     cores: u32,
     phases: u32,

@@ -6,7 +6,7 @@ use dn_base::{Failed, Memory, Source};
 use std::alloc::{AllocError, Global};
 
 /// Why no text was read.
-#[derive(Clone, Copy, Debug, PartialEq, Eq)]
+#[derive(Clone, Copy)]
 pub enum ReadError {
     /// A read of the source failed.
     Failed,

@@ -2,7 +2,7 @@ use crate::words::WordSet;
 use dn_base::{CoreId, Name, Sequence};
 
 /// A named part of the memory: `len` data words from word `start` on.
-#[derive(Debug, Drop)]
+#[derive(Drop)]
 pub struct Region {
     pub name: Name,
     pub start: u32,
@@ -10,7 +10,7 @@ pub struct Region {
 }
 
 /// The words that a task declares to use.
-#[derive(Debug, Drop)]
+#[derive(Drop)]
 pub struct Effects {
     /// The words that it may load, with or without locks.
     pub reads: WordSet,
@@ -23,7 +23,7 @@ pub struct Effects {
 }
 
 /// A task of a phase, as the program declares it.
-#[derive(Debug, Drop)]
+#[derive(Drop)]
 pub struct TaskDecl {
     /// The core that runs the task.
     pub core: CoreId,
@@ -35,7 +35,7 @@ pub struct TaskDecl {
 }
 
 /// A phase: its tasks in rising order of their cores, of which each has at most one.
-#[derive(Debug, Drop)]
+#[derive(Drop)]
 pub struct Phase {
     pub tasks: Sequence<TaskDecl>,
 }

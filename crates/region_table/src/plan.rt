@@ -14,7 +14,7 @@ use dn_base::{Memory, Sequence};
 use std::alloc::Global;
 
 /// What the cores know of a phase before it starts.
-#[derive(Debug, Drop)]
+#[derive(Drop)]
 pub struct PhasePlan {
     /// The words of the whole regions in which some task of the phase writes, plainly or under a lock.
     pub written: WordSet,

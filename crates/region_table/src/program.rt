@@ -10,7 +10,7 @@ use std::marker::Model;
 /// An assembled program: its code words, its initial memory, its regions, locks and phases.
 ///
 /// Every `Program` is well formed: `IsProgram` lists what that means.
-#[derive(Debug, Drop)]
+#[derive(Drop)]
 pub struct Program {
     /// The code words. Code word `i` has the byte address `0x00001000 + 4i`.
     pub code: Sequence<u32>,

@@ -14,7 +14,7 @@ use std::marker::Model;
 ///
 /// Contracts see the list of intervals; `has` tells whether a word is in the set. Two sets with the same words have the same
 /// intervals.
-#[derive(Debug, Drop)]
+#[derive(Drop)]
 pub struct WordSet {
     intervals: Vec<Interval>,
 }

@@ -12,7 +12,7 @@ ghost use Rattle.run_replay.specs.declared.replaying.Replayed.{Replayed};
 ghost use Rattle.run_replay.specs.Document.{FitsDocument, IsTrace, document_of};
 ghost use Rattle.run_replay.specs.Replay.{IsTrueOf};
 
-/// A document is the document of exactly one trace.
+/// A document is the document of at most one trace.
 pub fn a_document_is_of_one_trace()
     ensures { (t u : Trace) → IsTrace t → IsTrace u → document_of t ≡ document_of u → t ≡ u }
 {}
@@ -22,8 +22,8 @@ pub fn a_document_is_not_too_large()
     ensures { (t : Trace) → IsTrace t → length (document_of t) ≤ 536870912 }
 {}
 
-/// Events have exactly one replay on the machine of a setting. So they are a complete run, stop at an event that may not come,
-/// or are unfinished, exactly as the replay says.
+/// Events have at most one replay on the machine of a setting. So a replay that says that they are a complete run, or that they stop
+/// at an event that may not come, or that they are unfinished, is the only one.
 pub fn events_have_one_replay()
     ensures { (C : Setting) (events : List Event) (r s : Replayed) → IsTrueOf C events r → IsTrueOf C events s → r ≡ s }
 {}

@@ -9,7 +9,7 @@ use std::alloc::Global;
 use text_pieces::{push, push_decimal};
 
 /// Why a document isn't that of a complete run.
-#[derive(Clone, Copy, Debug, PartialEq, Eq)]
+#[derive(Clone, Copy, PartialEq, Eq)]
 pub enum TraceRefusal {
     /// The bytes are no document.
     Fault(TraceFault),

@@ -15,7 +15,7 @@ use rv_core::{Ending, TaskEnd};
 use std::alloc::Global;
 
 /// The result of a replay.
-#[derive(Debug, Drop)]
+#[derive(Drop)]
 pub enum Replayed {
     /// The events are a complete run, with this ending, these grants in the order in which the cores handled them, and these
     /// counts of events of each kind.

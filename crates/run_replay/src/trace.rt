@@ -6,7 +6,7 @@ use std::alloc::{AllocError, AllocFailed};
 
 /// What a document tells of the machine's size and the fuel: 1 to 16 banks, 1 to 256 sets, 1 to 16 ways, and 1 to 32,768
 /// instructions for each task. The number of cores follows from the program.
-#[derive(Clone, Copy, Debug, PartialEq, Eq)]
+#[derive(Clone, Copy, PartialEq, Eq)]
 pub struct TraceShape {
     pub banks: u32,
     pub sets: u32,
@@ -16,7 +16,7 @@ pub struct TraceShape {
 
 /// What a document tells of a run: the machine's size and the fuel; the source text of the program, at most 1,048,576 bytes;
 /// and the events in their order, at most 25,169,664.
-#[derive(Debug, Drop)]
+#[derive(Drop)]
 pub struct Trace {
     pub shape: TraceShape,
     pub text: Sequence<u8>,
@@ -24,7 +24,7 @@ pub struct Trace {
 }
 
 /// Why some bytes are no document. The first of these that is true of the bytes is given.
-#[derive(Clone, Copy, Debug, PartialEq, Eq)]
+#[derive(Clone, Copy, PartialEq, Eq)]
 pub enum TraceFault {
     /// There are more than 536,870,912 bytes.
     TooLarge,

@@ -11,7 +11,7 @@ use std::alloc::Global;
 use text_pieces::{push, push_decimal};
 
 /// Why command words or a text are refused.
-#[derive(Clone, Copy, Debug, PartialEq, Eq)]
+#[derive(Clone, Copy, PartialEq, Eq)]
 pub enum Refusal {
     /// The command doesn't take the words.
     Usage,

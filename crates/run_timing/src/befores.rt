@@ -8,7 +8,7 @@ use std::marker::Model;
 /// For each event of a run, the event after which it comes, if any.
 ///
 /// Each takes 4 bytes, where an `Option<u32>` would take 8. The number of the event plus 1 is stored, or 0 if there is none.
-#[derive(Debug, Drop)]
+#[derive(Drop)]
 pub(crate) struct Befores {
     numbers: Sequence<u32>,
 }

@@ -10,7 +10,7 @@ use dn_machine::Machine;
 use message_net::{Actor, Event, EventKind};
 
 /// An event that came: the actor that made it, and its kind.
-#[derive(Clone, Copy, Debug)]
+#[derive(Clone, Copy)]
 pub(crate) struct Happened {
     pub(crate) actor: Actor,
     pub(crate) kind: EventKind,

@@ -9,7 +9,7 @@ use std::alloc::Global;
 const _: () = prove!(size_of::<EventKind>() == 1);
 
 /// The notes of each event of a run: when it finishes, the event after which it comes, and its kind.
-#[derive(Debug, Drop)]
+#[derive(Drop)]
 pub(crate) struct Rows {
     pub(crate) finishes: Sequence<u64>,
     pub(crate) befores: Befores,

@@ -5,7 +5,7 @@ ghost use Rattle.run_timing.specs.Ticks.{AreWithinLimits, ticks_by, ticks_of};
 use message_net::EventKind;
 
 /// How many ticks an event of each kind takes, in the order in which `EventKind` names the kinds: 1 to 1,000,000.
-#[derive(Clone, Copy, Debug, PartialEq, Eq)]
+#[derive(Clone, Copy, PartialEq, Eq)]
 pub struct Ticks {
     pub kinds: [u32; 17],
 }

@@ -2,7 +2,7 @@ use message_net::EventKind;
 
 /// An event of the longest chain: its number among the run's events, from 0, its kind, and at which tick from the run's start
 /// it finishes.
-#[derive(Clone, Copy, Debug, PartialEq, Eq)]
+#[derive(Clone, Copy, PartialEq, Eq)]
 pub struct Link {
     pub event: u32,
     pub kind: EventKind,
@@ -12,7 +12,7 @@ pub struct Link {
 const _: () = prove!(size_of::<Link>() == 16);
 
 /// How many ticks a run takes, and the chain of dependent events that takes them.
-#[derive(Debug, Drop)]
+#[derive(Drop)]
 pub struct Timing {
     pub total: u64,
     pub links: Vec<Link>,

@@ -6,7 +6,7 @@ use std::alloc::Global;
 
 /// Notes of the events so far: for each actor, by its index, its last event; and for each of its mails, by the mail's number,
 /// the event that sent it.
-#[derive(Debug, Drop)]
+#[derive(Drop)]
 pub(crate) struct Tracks {
     pub(crate) last: Sequence<Option<u32>>,
     pub(crate) senders: Vec<Sequence<u32>>,

@@ -1,7 +1,7 @@
 use crate::reg::Reg;
 
 /// What an instruction computes from two values of 32 bits.
-#[derive(Clone, Copy, Debug, PartialEq, Eq)]
+#[derive(Clone, Copy, PartialEq, Eq)]
 pub enum AluOp {
     /// The sum, modulo 2^32.
     Add,
@@ -26,7 +26,7 @@ pub enum AluOp {
 }
 
 /// When a branch is taken, by its two values.
-#[derive(Clone, Copy, Debug, PartialEq, Eq)]
+#[derive(Clone, Copy, PartialEq, Eq)]
 pub enum Cond {
     /// They are equal.
     Eq,
@@ -43,7 +43,7 @@ pub enum Cond {
 }
 
 /// How many bytes a load or a store moves, and how a load fills the register.
-#[derive(Clone, Copy, Debug, PartialEq, Eq)]
+#[derive(Clone, Copy, PartialEq, Eq)]
 pub enum Width {
     /// One byte, sign-extended by a load.
     B,
@@ -59,7 +59,7 @@ pub enum Width {
 
 /// An instruction of RV32I. Its numbers are the values that the instruction means, offsets in bytes; `fits` tells whether they
 /// can be encoded.
-#[derive(Clone, Copy, Debug, PartialEq, Eq)]
+#[derive(Clone, Copy, PartialEq, Eq)]
 pub enum Instr {
     /// `rd` becomes `imm` times 4096; `imm` is the 20-bit number of bits 31 to 12.
     Lui {

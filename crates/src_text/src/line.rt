@@ -10,7 +10,7 @@ use dn_base::{Memory, Sequence};
 use std::alloc::Global;
 
 /// What is wrong with a line. The first of these that it has is reported.
-#[derive(Clone, Copy, Debug, PartialEq, Eq)]
+#[derive(Clone, Copy, PartialEq, Eq)]
 pub enum LineFault {
     /// Outside a comment stands a byte that is no blank, letter, digit or one of `_ . , : ( ) -`.
     BadByte,
@@ -22,7 +22,7 @@ pub enum LineFault {
 }
 
 /// A line of a text: its number, from 1, and either its tokens in order or its fault.
-#[derive(Clone, Debug, Drop)]
+#[derive(Clone, Drop)]
 pub struct Line {
     pub number: u32,
     pub tokens: Sequence<Token>,

@@ -9,7 +9,7 @@ use dn_base::{Memory, Sequence};
 use std::alloc::Global;
 
 /// What a token is. The value of a number is from -2147483648 to 4294967295.
-#[derive(Clone, Copy, Debug, PartialEq, Eq)]
+#[derive(Clone, Copy, PartialEq, Eq)]
 pub enum TokenKind {
     Name,
     Number(i64),
@@ -20,7 +20,7 @@ pub enum TokenKind {
 }
 
 /// A token: `start` and `end` are the positions in the text of its first byte and after its last byte, counted from 0.
-#[derive(Clone, Copy, Debug, PartialEq, Eq)]
+#[derive(Clone, Copy, PartialEq, Eq)]
 pub struct Token {
     pub kind: TokenKind,
     pub start: u32,

@@ -18,7 +18,7 @@ use src_text::{Line, tokens};
 use std::alloc::Global;
 
 /// Where a code word comes from.
-#[derive(Clone, Copy, Debug, PartialEq, Eq)]
+#[derive(Clone, Copy)]
 pub struct CodePlace {
     /// The number of the line, from 1.
     pub line: u32,
@@ -27,7 +27,7 @@ pub struct CodePlace {
 }
 
 /// Where a task comes from.
-#[derive(Clone, Copy, Debug, PartialEq, Eq)]
+#[derive(Clone, Copy)]
 pub struct TaskPlace {
     /// The number of its phase, from 0.
     pub phase: usize,

@@ -5,7 +5,7 @@ ghost use Rattle.text_places.specs.Words.{region_has, place_at, place_before, wo
 use region_table::{Program, Region};
 
 /// Which word of which region a data word is, both numbered from 0.
-#[derive(Clone, Copy, Debug, PartialEq, Eq)]
+#[derive(Clone, Copy)]
 pub struct WordPlace {
     pub region: usize,
     pub index: u32,

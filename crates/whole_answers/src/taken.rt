@@ -1,5 +1,5 @@
 /// How much of an answer was taken.
-#[derive(Clone, Copy, Debug, PartialEq, Eq)]
+#[derive(Clone, Copy)]
 pub enum Taken {
     /// All of it: it is the text's, and was explained.
     Whole,

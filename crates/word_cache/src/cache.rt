@@ -21,7 +21,7 @@ use write_signature::Signature;
 /// The private cache of a core: at most `ways` words in each of its `sets` sets. Word `w` is in set `w mod sets`.
 ///
 /// Contracts see a list of pairs of a word and its entry, the least recently used first.
-#[derive(Debug, Drop)]
+#[derive(Drop)]
 pub struct WordCache {
     sets: u32,
     ways: u32,

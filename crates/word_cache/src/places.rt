@@ -19,7 +19,7 @@ pub(crate) fn start_of(sets: u32, ways: u32, word: WordId) -> usize
 }
 
 /// What one pass over a word's set finds.
-#[derive(Clone, Copy, Debug)]
+#[derive(Clone, Copy)]
 pub(crate) struct Found {
     /// The place of the word's pair.
     pub own: Option<usize>,
@@ -51,7 +51,7 @@ pub(crate) fn find_word(row: &Row, sets: u32, ways: u32, word: WordId) -> Found
 }
 
 /// Where a word's pair stands or may stand.
-#[derive(Clone, Copy, Debug)]
+#[derive(Clone, Copy)]
 pub(crate) enum Spot {
     /// The place of its pair.
     Pair(usize),

@@ -8,7 +8,7 @@ use std::alloc::Global;
 use std::marker::Model;
 
 /// What a core's cache has for a word.
-#[derive(Clone, Copy, Debug, PartialEq, Eq)]
+#[derive(Clone, Copy, PartialEq, Eq)]
 pub enum Entry {
     /// A copy of the word. `marked` says that the core's task has read it in this phase by its plain effects.
     Valid { value: u32, marked: bool },
@@ -43,7 +43,7 @@ impl Entry {
 }
 
 /// What a cache has for a word.
-#[derive(Clone, Copy, Debug, PartialEq, Eq)]
+#[derive(Clone, Copy, PartialEq, Eq)]
 pub enum Probe {
     /// The word has this entry. `place` is a hint, with which later calls find the word's pair at once.
     Hit { place: usize, entry: Entry },
@@ -54,7 +54,7 @@ pub enum Probe {
 }
 
 /// A place of a cache: the pair that stands there, if there is one, and the number of its last use.
-#[derive(Clone, Copy, Debug, PartialEq, Eq)]
+#[derive(Clone, Copy, PartialEq, Eq)]
 pub struct Place {
     pub pair: Option<(WordId, Entry)>,
     pub used: u64,
@@ -64,7 +64,7 @@ pub struct Place {
 /// together. Counters tell how many places have a pending entry, and how many a copy.
 ///
 /// Contracts see the list of places.
-#[derive(Debug, Drop)]
+#[derive(Drop)]
 pub(crate) struct Row {
     places: Vec<Place>,
     words: Vec<Option<WordId>>,
