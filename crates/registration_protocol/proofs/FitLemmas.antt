@@ -295,6 +295,11 @@ instr-fits C n fit may =
     let ready = (and_parts _ _ parts.0).1 in
     instr_parts C n (declared C.program n.phase n.core) n.task (need_now C n) fit ready parts.1 refl refl refl
 
+-- so does one that may have been made
+pub computed-fits : (C : Setting) (n m : NodeParts) (b : Bool) → Fits C n → may_instr C n ≡ true → (b ≡ true → m ≡ (instructed C n).0) → (b ≡ false → m ≡ n) → Fits C m
+computed-fits C n m true fit may done left = rw (done refl) (instr-fits C n fit may)
+computed-fits C n m false fit may done left = rw (left refl) fit
+
 -- ---- an eviction and an arrival
 
 evicts_fit : (C : Setting) (n : NodeParts) (word : WordId) (e : Option Entry) → Fits C n → Fits C (evicts C n word e).0

@@ -1,16 +1,19 @@
-ghost use Rattle.std.specs.Prelude.{◌≡◌, ◌<◌, ◌≤◌, ◌||◌, true, false, Some, None, length, IfSome};
+ghost use Rattle.std.specs.Prelude.{◌≡◌, ◌≢◌, ◌↔◌, ◌<◌, ◌≤◌, ◌||◌, true, false, Some, None, length, IfSome};
 ghost use Rattle.std.specs.Option.{is_some, option_map};
+ghost use Rattle.region_table.specs.declared.declared.TaskDecl.{TaskDecl as ATask};
 ghost use Rattle.region_table.specs.Plan.{uses_plainly};
 ghost use Rattle.rv_core.specs.Kinds.{IsLoad, IsStore, IsAdvance};
+ghost use Rattle.rv_core.specs.Need.{need_of};
 ghost use Rattle.rv_core.specs.Step.{advanced, loaded_of, merged_of};
 ghost use Rattle.rv_core.specs.Task.{stopped};
 ghost use Rattle.rv_core.specs.declared.task.TaskState.{TaskState};
+ghost use Rattle.rv_core.specs.declared.need.Need.TheVariants.{Local as NeedsNothing};
 ghost use Rattle.message_net.specs.declared.message.Message.TheVariants.{Acquire as AcquireOf, Release as ReleaseOf};
 ghost use Rattle.message_net.specs.Mail.{to_home};
 ghost use Rattle.word_cache.specs.declared.row.Entry.TheVariants.{Registered as AsRegistered};
 ghost use Rattle.word_cache.specs.Cache.{has_room, IsProbe, lookup, put};
 ghost use Rattle.registration_protocol.specs.Fit.{IsContext, Fits, IsNeed, Computes};
-ghost use Rattle.registration_protocol.specs.Node.{entry_of, signature_of};
+ghost use Rattle.registration_protocol.specs.Node.{need_now, entry_of, signature_of};
 ghost use Rattle.registration_protocol.specs.declared.node.NodeWait.TheVariants.{None as WaitsForNothing, Locking};
 ghost use Rattle.registration_protocol.specs.OwnEvents.{may_access, lets, may_instr, misses, me, stored, registers_word, load_row, store_row, instr_row, instructed, noted};
 ghost use Rattle.registration_protocol.specs.Setting.{setting};
@@ -52,6 +55,8 @@ fn compute(task: &mut Option<TaskState>, context: &Context<'_>) -> bool
     requires { IfSome task.old (λ t. t.retired ≤ (setting context.now).fuel) }
     ensures done { result ≡ true → (t : TaskState) × Computes (setting context.now) task.old t × (task.new ≡ Some (advanced (setting context.now).program t)) }
     ensures left { result ≡ false → task.new ≡ task.old }
+    ensures other { result ≡ false → (t : TaskState) (d : ATask) → task.old ≡ Some t → t.end ≡ None
+        → need_of (setting context.now).program d (setting context.now).fuel t ≢ NeedsNothing }
 {
     match task {
         Some(task) if task.end.is_none() => context.decoded.compute(task, context.fuel),
@@ -428,6 +433,35 @@ impl Node {
                 None
             }
         }
+    }
+
+    /// The node's next instruction, if it needs nothing besides the task's own registers. Returns whether it was such a one.
+    #[tactic(auto, unfolding(crate::specs::OwnEvents::instructed))]
+    #[inline(always)]
+    fn instruct_alone(&mut self, context: &Context<'_>) -> bool
+        requires fits { Fits (setting context.now) self.old }
+        ensures which { (result ≡ true) ↔ (need_now (setting context.now) self.old ≡ Some NeedsNothing) }
+        ensures done { result ≡ true → self.new ≡ (instructed (setting context.now) self.old).0 }
+        ensures silent { result ≡ true → record { sent = None; seen = None } ≡ (instructed (setting context.now) self.old).1 }
+        ensures left { result ≡ false → self.new ≡ self.old }
+    {
+        compute(&mut self.task, context)
+    }
+
+    /// Completes the node's next instruction, which may go on, if it needs nothing besides the task's own registers. Such an instruction
+    /// sends nothing and reads nothing. Otherwise it does nothing. Returns whether it completed one. Takes no memory.
+    #[inline(always)]
+    pub fn compute(&mut self, context: &Context<'_>) -> bool
+        requires context { IsContext (setting context.now) }
+        requires fits { Fits (setting context.now) self.old }
+        requires may { may_instr (setting context.now) self.old ≡ true }
+        ensures which { (result ≡ true) ↔ (need_now (setting context.now) self.old ≡ Some NeedsNothing) }
+        ensures done { result ≡ true → self.new ≡ (instructed (setting context.now) self.old).0 }
+        ensures silent { result ≡ true → record { sent = None; seen = None } ≡ (instructed (setting context.now) self.old).1 }
+        ensures left { result ≡ false → self.new ≡ self.old }
+        ensures fits { Fits (setting context.now) self.new }
+    {
+        self.instruct_alone(context)
     }
 
     /// The node's next instruction, by one look at it.
