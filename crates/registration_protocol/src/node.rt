@@ -1,5 +1,5 @@
 ghost use Rattle.std.specs.Prelude.{◌≡◌, ◌<◌, true, Some, None, IfOk, if◌then◌else◌, ◌&&◌};
-ghost use Rattle.message_net.specs.Mail.{to_core, to_home};
+ghost use Rattle.message_net.specs.Mail.{to_home};
 ghost use Rattle.registration_protocol.specs.Node.{NodeParts, Setting, initial_node, need_now, entry_of, is_settled, is_running, is_active, is_ready};
 ghost use Rattle.registration_protocol.specs.Fit.{IsContext, Fits};
 ghost use Rattle.registration_protocol.specs.Setting.{setting};
@@ -62,28 +62,6 @@ impl Model for Node {
     ghost Value = { NodeParts };
 
     ghost view = { λ n. record { core = n.core.0; phase = n.phase.0; task = n.task; cache = n.cache; waiting = n.wait; signatures = n.signatures; arrived = n.arrived; halted = n.halted } };
-}
-
-/// What a message brings about that sends nothing and grants nothing.
-#[inline(always)]
-pub(crate) fn nothing() -> Received
-    ensures { result ≡ record { sent = None; granted = None } }
-{
-    Received {
-        sent: None,
-        granted: None,
-    }
-}
-
-/// What a message brings about that makes the node send a message to a core.
-#[inline(always)]
-fn send(core: CoreId, message: Message) -> Received
-    ensures { result ≡ record { sent = to_core core message; granted = None } }
-{
-    Received {
-        sent: Some(Outgoing::to_core(core, message)),
-        granted: None,
-    }
 }
 
 /// A message to the home of the word or lock of this number.
@@ -222,32 +200,28 @@ impl Node {
 
     /// The value of a word comes.
     #[inline(always)]
-    pub(crate) fn data(&mut self, word: WordId, value: u32) -> Received
+    pub(crate) fn data(&mut self, word: WordId, value: u32)
         ensures node { self.new ≡ (data_reply_row self.old word value self.old.waiting).0 }
-        ensures received { result ≡ (data_reply_row self.old word value self.old.waiting).1 }
+        ensures received { record { sent = None; granted = None } ≡ (data_reply_row self.old word value self.old.waiting).1 }
     {
         if self.wait == NodeWait::Reading(word) {
             self.fill(word, value);
         }
-        nothing()
     }
 
     /// A read is forwarded to the node: the value goes to the reader where the node has it for sure, and else the read goes
     /// back to the word's home.
     #[inline(always)]
-    pub(crate) fn read(&self, context: &Context<'_>, word: WordId, reader: CoreId) -> Received
+    pub(crate) fn read(&self, context: &Context<'_>, word: WordId, reader: CoreId) -> Outgoing
         requires { 0 < (setting context.now).shape.banks }
-        ensures { result ≡ (read_fwd_row (setting context.now) self.now word reader (entry_of self.now word.0)).1 }
+        ensures { record { sent = Some result; granted = None } ≡ (read_fwd_row (setting context.now) self.now word reader (entry_of self.now word.0)).1 }
     {
         match self.cache.get(word) {
-            Some(Entry::Registered { value, .. } | Entry::Leaving(value)) => send(
+            Some(Entry::Registered { value, .. } | Entry::Leaving(value)) => Outgoing::to_core(
                 reader,
                 Message::DataReply { word, value },
             ),
-            _ => Received {
-                sent: Some(send_home(context, word.0, Message::ReadReq { word, reader })),
-                granted: None,
-            },
+            _ => send_home(context, word.0, Message::ReadReq { word, reader }),
         }
     }
 
@@ -280,21 +254,20 @@ impl Node {
 
     /// The run is over.
     #[inline(always)]
-    pub(crate) fn halt(&mut self) -> Received
+    pub(crate) fn halt(&mut self)
         ensures node { self.new ≡ (halt_row self.old).0 }
-        ensures received { result ≡ (halt_row self.old).1 }
+        ensures received { record { sent = None; granted = None } ≡ (halt_row self.old).1 }
     {
         if self.arrived {
             self.halted = true;
         }
-        nothing()
     }
 
     /// The home of a word says that the core is its registrant.
     #[inline(always)]
-    pub(crate) fn acknowledged(&mut self, word: WordId) -> Received
+    pub(crate) fn acknowledged(&mut self, word: WordId)
         ensures node { self.new ≡ (reg_ack_row self.old word (entry_of self.old word.0)).0 }
-        ensures received { result ≡ (reg_ack_row self.old word (entry_of self.old word.0)).1 }
+        ensures received { record { sent = None; granted = None } ≡ (reg_ack_row self.old word (entry_of self.old word.0)).1 }
     {
         if let Probe::Hit { place, entry } = self.cache.probe(word)
             && let Entry::Registered {
@@ -308,35 +281,33 @@ impl Node {
             };
             self.cache.change_at(Some(place), word, entry);
         }
-        nothing()
     }
 
     /// Another core is the registrant of a word now.
     #[inline(always)]
-    pub(crate) fn forwarded(&mut self, word: WordId, core: CoreId) -> Received
+    pub(crate) fn forwarded(&mut self, word: WordId, core: CoreId) -> Outgoing
         ensures node { self.new ≡ (reg_fwd_row self.old word core (entry_of self.old word.0)).0 }
-        ensures received { result ≡ (reg_fwd_row self.old word core (entry_of self.old word.0)).1 }
+        ensures received { record { sent = Some result; granted = None } ≡ (reg_fwd_row self.old word core (entry_of self.old word.0)).1 }
     {
         if let Probe::Hit { place, entry } = self.cache.probe(word)
             && let Entry::Registered { pending: false, .. } = entry
         {
             self.cache.remove_at(Some(place), word);
         }
-        send(core, Message::RegAck { word })
+        Outgoing::to_core(core, Message::RegAck { word })
     }
 
     /// The home of a word has had it back.
     #[inline(always)]
-    pub(crate) fn given_back(&mut self, word: WordId) -> Received
+    pub(crate) fn given_back(&mut self, word: WordId)
         ensures node { self.new ≡ (wb_ack_row self.old word (entry_of self.old word.0)).0 }
-        ensures received { result ≡ (wb_ack_row self.old word (entry_of self.old word.0)).1 }
+        ensures received { record { sent = None; granted = None } ≡ (wb_ack_row self.old word (entry_of self.old word.0)).1 }
     {
         if let Probe::Hit { place, entry } = self.cache.probe(word)
             && let Entry::Leaving(_) = entry
         {
             self.cache.remove_at(Some(place), word);
         }
-        nothing()
     }
 }
 

@@ -9,11 +9,11 @@ ghost use Rattle.registration_protocol.specs.Node.{keeping, need_now};
 ghost use Rattle.registration_protocol.specs.Messages.{guarded_by, written_in, granted_to, grant_row, begins, go_row, node_gets};
 ghost use Rattle.registration_protocol.specs.Setting.{setting};
 
-use crate::node::{Node, NodeWait, Received, nothing};
+use crate::node::{Node, NodeWait, Received};
 use crate::setting::{Context, declaration, start};
 use crate::signatures::empty_all;
 use dn_base::{Grant, LockId, PhaseId};
-use message_net::Message;
+use message_net::{Message, Outgoing};
 use region_table::PhasePlan;
 use write_signature::Signature;
 
@@ -50,42 +50,42 @@ impl Node {
     }
 
     /// The node's task gets the lock that the node waits for.
-    fn hold(&mut self, context: &Context<'_>, lock: LockId, signature: Signature) -> Received
+    fn hold(&mut self, context: &Context<'_>, lock: LockId, signature: Signature) -> Option<Grant>
         requires fits { Fits (setting context.now) self.old }
         requires lock { need_now (setting context.now) self.old ≡ Some (NeedsAcquire lock) }
         ensures node { self.new ≡ (granted_to (setting context.now) self.old lock signature self.old.task).0 }
-        ensures received { result ≡ (granted_to (setting context.now) self.old lock signature self.old.task).1 }
+        ensures received { record { sent = None; granted = result } ≡ (granted_to (setting context.now) self.old lock signature self.old.task).1 }
     {
         let Some(task) = &mut self.task else {
-            return nothing();
+            return None;
         };
-        let Some(declared) = declaration(context.decoded.program(), self.phase, self.core) else {
-            return nothing();
-        };
+        let declared = declaration(context.decoded.program(), self.phase, self.core)?;
         task.advance(context.decoded.program(), declared, context.fuel);
         self.signatures
             .set(lock.0 as usize, own_phase(signature, self.phase));
         self.drop_signed(context, lock, &signature);
         self.wait = NodeWait::None;
-        Received {
-            sent: None,
-            granted: Some(Grant {
-                phase: self.phase,
-                core: self.core,
-                lock,
-            }),
-        }
+        Some(Grant {
+            phase: self.phase,
+            core: self.core,
+            lock,
+        })
     }
 
     /// A lock is granted.
-    fn granted(&mut self, context: &Context<'_>, lock: LockId, signature: Signature) -> Received
+    fn granted(
+        &mut self,
+        context: &Context<'_>,
+        lock: LockId,
+        signature: Signature,
+    ) -> Option<Grant>
         requires fits { Fits (setting context.now) self.old }
         ensures node { self.new ≡ (grant_row (setting context.now) self.old lock signature self.old.waiting).0 }
-        ensures received { result ≡ (grant_row (setting context.now) self.old lock signature self.old.waiting).1 }
+        ensures received { record { sent = None; granted = result } ≡ (grant_row (setting context.now) self.old lock signature self.old.waiting).1 }
     {
         match self.wait {
             NodeWait::Locking(wanted) if wanted.0 == lock.0 => self.hold(context, lock, signature),
-            _ => nothing(),
+            _ => None,
         }
     }
 
@@ -114,11 +114,11 @@ impl Node {
     }
 
     /// The keeper says that the phase begins.
-    fn go(&mut self, context: &Context<'_>, phase: PhaseId) -> Received
+    fn go(&mut self, context: &Context<'_>, phase: PhaseId)
         requires context { IsContext (setting context.now) }
         requires fits { Fits (setting context.now) self.old }
         ensures node { self.new ≡ (go_row (setting context.now) self.old phase.0).0 }
-        ensures received { result ≡ (go_row (setting context.now) self.old phase.0).1 }
+        ensures received { record { sent = None; granted = None } ≡ (go_row (setting context.now) self.old phase.0).1 }
     {
         let program = context.decoded.program();
         let is_next = self.phase.0.checked_add(1) == Some(phase.0);
@@ -126,29 +126,75 @@ impl Node {
         if self.arrived && !self.halted && is_next && is_there {
             self.begin(context, phase);
         }
-        nothing()
     }
 
-    /// What a message makes the node do, by its kind.
+    /// What a message makes the node do, by its kind. What is sent is put into the caller's place, which has nothing: so the many that
+    /// send nothing move no message.
     #[tactic(auto, unfolding(crate::specs::Messages::node_gets))]
     #[inline(always)]
-    fn handle(&mut self, context: &Context<'_>, message: Message) -> Received
+    fn handle(
+        &mut self,
+        context: &Context<'_>,
+        message: &Message,
+        sent: &mut Option<Outgoing>,
+    ) -> Option<Grant>
+        requires none { sent.old ≡ None }
         requires context { IsContext (setting context.now) }
         requires fits { Fits (setting context.now) self.old }
-        ensures node { self.new ≡ (node_gets (setting context.now) self.old message).0 }
-        ensures received { result ≡ (node_gets (setting context.now) self.old message).1 }
+        ensures node { self.new ≡ (node_gets (setting context.now) self.old message.now).0 }
+        ensures received { record { sent = sent.new; granted = result } ≡ (node_gets (setting context.now) self.old message.now).1 }
     {
-        match message {
-            Message::DataReply { word, value } => self.data(word, value),
-            Message::RegAck { word } => self.acknowledged(word),
-            Message::RegFwd { word, core } => self.forwarded(word, core),
-            Message::ReadFwd { word, reader } => self.read(context, word, reader),
-            Message::WbAck { word } => self.given_back(word),
+        match *message {
+            Message::DataReply { word, value } => {
+                self.data(word, value);
+                None
+            }
+            Message::RegAck { word } => {
+                self.acknowledged(word);
+                None
+            }
+            Message::RegFwd { word, core } => {
+                *sent = Some(self.forwarded(word, core));
+                None
+            }
+            Message::ReadFwd { word, reader } => {
+                *sent = Some(self.read(context, word, reader));
+                None
+            }
+            Message::WbAck { word } => {
+                self.given_back(word);
+                None
+            }
             Message::Grant { lock, signature } => self.granted(context, lock, signature),
-            Message::Go { phase } => self.go(context, phase),
-            Message::Halt => self.halt(),
-            _ => nothing(),
+            Message::Go { phase } => {
+                self.go(context, phase);
+                None
+            }
+            Message::Halt => {
+                self.halt();
+                None
+            }
+            _ => None,
         }
+    }
+
+    /// What a node does on a message, as `receive` does it. What it sends is put into the caller's place, and the lock that it is
+    /// granted is given back. Takes no memory.
+    #[inline(always)]
+    pub fn receive_into(
+        &mut self,
+        context: &Context<'_>,
+        message: &Message,
+        sent: &mut Option<Outgoing>,
+    ) -> Option<Grant>
+        requires context { IsContext (setting context.now) }
+        requires fits { Fits (setting context.now) self.old }
+        ensures node { self.new ≡ (node_gets (setting context.now) self.old message.now).0 }
+        ensures received { record { sent = sent.new; granted = result } ≡ (node_gets (setting context.now) self.old message.now).1 }
+        ensures fits { Fits (setting context.now) self.new }
+    {
+        *sent = None;
+        self.handle(context, message, sent)
     }
 
     /// What a node does on a message: the value of a word, an acknowledgement, a forwarded registration or read, the grant of a
@@ -163,6 +209,8 @@ impl Node {
         ensures received { result ≡ (node_gets (setting context.now) self.old message).1 }
         ensures fits { Fits (setting context.now) self.new }
     {
-        self.handle(context, message)
+        let mut sent = None;
+        let granted = self.receive_into(context, &message, &mut sent);
+        Received { sent, granted }
     }
 }
