@@ -102,7 +102,7 @@ impl WordCache {
         entry_of(&self.places, self.sets, self.ways, word)
     }
 
-    /// The word's entry, or whether its set has room where it has none: one pass over the word's set tells what `get` and
+    /// The word's entry, or whether its set has room where it has none: one look at the word's set tells what `get` and
     /// `room` tell. Takes no memory.
     #[inline(always)]
     pub fn probe(&self, word: WordId) -> Probe

@@ -5,7 +5,7 @@ ghost use Rattle.word_cache.specs.declared.row.Place.{Place};
 ghost use Rattle.word_cache.specs.Cache.{Pair, in_set, lookup, set_count, gives_way, may_go, IsProbe};
 ghost use Rattle.word_cache.specs.Row.{IsPlaceRow, HaveDistinctTimes, pairs_by_use};
 
-use crate::places::{Spot, entry_at, find_word, spot_of, victim_place};
+use crate::places::{Spot, entry_at, free_place, pair_place, spot_of, victim_place};
 use crate::row::{Entry, Place, Probe, Row};
 use dn_base::WordId;
 
@@ -15,13 +15,13 @@ pub(crate) fn entry_of(row: &Row, sets: u32, ways: u32, word: WordId) -> Option<
     requires { IsPlaceRow sets ways row.now }
     ensures { result ≡ lookup word.0 (pairs_by_use row.now) }
 {
-    match find_word(row, sets, ways, word).own {
+    match pair_place(row, sets, ways, word) {
         Some(place) => entry_at(row.as_slice(), place),
         None => None,
     }
 }
 
-/// What the row has for the word. It looks at the word's set alone, and once.
+/// What the row has for the word. It looks at the word's set alone.
 #[inline(always)]
 pub(crate) fn probe_of(row: &Row, sets: u32, ways: u32, word: WordId) -> Probe
     requires { IsPlaceRow sets ways row.now }
@@ -42,7 +42,7 @@ pub(crate) fn has_free(row: &Row, sets: u32, ways: u32, word: WordId) -> bool
     requires { IsPlaceRow sets ways row.now }
     ensures { result ≡ nat_lt (set_count sets word.0 (pairs_by_use row.now)) ways }
 {
-    match find_word(row, sets, ways, word).free {
+    match free_place(row, sets, ways, word) {
         Some(_) => true,
         None => false,
     }

@@ -18,36 +18,34 @@ pub(crate) fn start_of(sets: u32, ways: u32, word: WordId) -> usize
     (remainder(word.0, sets) * ways) as usize
 }
 
-/// What one pass over a word's set finds.
-#[derive(Clone, Copy)]
-pub(crate) struct Found {
-    /// The place of the word's pair.
-    pub own: Option<usize>,
-    /// A place of the set without a pair.
-    pub free: Option<usize>,
-}
-
-/// Where the word's pair stands, and a free place of its set. It looks at the word's set alone, and once.
+/// The place of the word's pair, if it has one. It looks at the word's set alone, and ends at the pair.
 #[inline(always)]
-pub(crate) fn find_word(row: &Row, sets: u32, ways: u32, word: WordId) -> Found
+pub(crate) fn pair_place(row: &Row, sets: u32, ways: u32, word: WordId) -> Option<usize>
     requires { IsPlaceRow sets ways row.now }
-    ensures own { IsOwnPlace word.0 row.now result.own }
-    ensures free { IsFreePlace sets ways word.0 row.now result.free }
+    ensures { IsOwnPlace word.0 row.now result }
 {
     let start = start_of(sets, ways, word);
-    let mut own: Option<usize> = None;
-    let mut free: Option<usize> = None;
-
-    // the loop goes on after the pair is found: an exit that depends on the word costs more than looking at the places after it
     for index in start..start + ways as usize {
         if row.has_word(index, word) {
-            own = Some(index);
-        }
-        if row.is_free(index) {
-            free = Some(index);
+            return Some(index);
         }
     }
-    Found { own, free }
+    None
+}
+
+/// A place of the word's set without a pair, if there is one. It ends at the first such place.
+#[inline(always)]
+pub(crate) fn free_place(row: &Row, sets: u32, ways: u32, word: WordId) -> Option<usize>
+    requires { IsPlaceRow sets ways row.now }
+    ensures { IsFreePlace sets ways word.0 row.now result }
+{
+    let start = start_of(sets, ways, word);
+    for index in start..start + ways as usize {
+        if row.is_free(index) {
+            return Some(index);
+        }
+    }
+    None
 }
 
 /// Where a word's pair stands or may stand.
@@ -61,25 +59,19 @@ pub(crate) enum Spot {
     Nowhere,
 }
 
-/// Where the word's pair stands, or else a free place of its set. It looks at the word's set alone, and once.
+/// Where the word's pair stands, or else a free place of its set. It looks at the word's set alone, and for a free place only where the
+/// word has no pair.
 #[inline(always)]
 pub(crate) fn spot_of(row: &Row, sets: u32, ways: u32, word: WordId) -> Spot
     requires { IsPlaceRow sets ways row.now }
     ensures { IsSpot sets ways word.0 row.now result }
 {
-    match find_word(row, sets, ways, word) {
-        Found {
-            own: Some(place),
-            free: _,
-        } => Spot::Pair(place),
-        Found {
-            own: None,
-            free: Some(place),
-        } => Spot::Free(place),
-        Found {
-            own: None,
-            free: None,
-        } => Spot::Nowhere,
+    match pair_place(row, sets, ways, word) {
+        Some(place) => Spot::Pair(place),
+        None => match free_place(row, sets, ways, word) {
+            Some(place) => Spot::Free(place),
+            None => Spot::Nowhere,
+        },
     }
 }
 

@@ -10,12 +10,12 @@ some_place = record { pair = None; used = 0 }
 
 pub returns-in-Some : goal.returns-in-Some
 returns-in-Some c =
-    let free = rw c.in-Some.is at c.find_word.ensures.free in
+    let free = rw c.in-Some.is at c.free_place.ensures in
     let fewer = is_short c.args.sets c.args.ways c.args.word.0 c.in-Some.field-0 some_place c.args.row.now c.requires free.0 free.1 (free.2 some_place) in
     grind (arith, nat_tests, fewer)
 
 pub returns-in-None : goal.returns-in-None
 returns-in-None c =
-    let none = rw c.in-None.is at c.find_word.ensures.free in
+    let none = rw c.in-None.is at c.free_place.ensures in
     let full = is_full c.args.sets c.args.ways c.args.word.0 c.args.row.now c.requires none in
     grind (arith, nat_tests, full)
