@@ -225,18 +225,22 @@ impl Node {
         }
     }
 
-    /// Evicts a word: a copy is removed, and a registered word is written back to its home.
-    pub(crate) fn give_up(&mut self, context: &Context<'_>, word: WordId) -> Option<Outgoing>
-        requires { 0 < (setting context.now).shape.banks }
+    /// Evicts a word: a copy is removed, and a registered word is written back to its home. What is sent is put into the caller's place,
+    /// which has nothing.
+    pub(crate) fn give_up(
+        &mut self,
+        context: &Context<'_>,
+        word: WordId,
+        sent: &mut Option<Outgoing>,
+    )
+        requires none { sent.old ≡ None }
+        requires banks { 0 < (setting context.now).shape.banks }
         ensures node { self.new ≡ (evicted (setting context.now) self.old word).0 }
-        ensures sent { result ≡ (evicted (setting context.now) self.old word).1 }
+        ensures sent { sent.new ≡ (evicted (setting context.now) self.old word).1 }
     {
         match self.cache.probe(word) {
             Probe::Hit { place, entry } => match entry {
-                Entry::Valid { .. } => {
-                    self.cache.remove_at(Some(place), word);
-                    None
-                }
+                Entry::Valid { .. } => self.cache.remove_at(Some(place), word),
                 Entry::Registered {
                     value,
                     pending: false,
@@ -244,11 +248,15 @@ impl Node {
                     self.cache
                         .change_at(Some(place), word, Entry::Leaving(value));
                     let core = self.core;
-                    Some(send_home(context, word.0, Message::WriteBack { word, value, core }))
+                    *sent = Some(send_home(
+                        context,
+                        word.0,
+                        Message::WriteBack { word, value, core },
+                    ));
                 }
-                _ => None,
+                _ => {}
             },
-            Probe::Room { .. } | Probe::Full => None,
+            Probe::Room { .. } | Probe::Full => {}
         }
     }
 

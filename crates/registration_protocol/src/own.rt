@@ -74,6 +74,20 @@ impl Node {
         self.may_make_room(context, word, self.outlook(self.need(context)).lacked())
     }
 
+    /// Evicts a word, as `evict` does. What is sent is put into the caller's place. Takes no memory.
+    #[inline(always)]
+    pub fn evict_into(&mut self, context: &Context<'_>, word: WordId, sent: &mut Option<Outgoing>)
+        requires context { IsContext (setting context.now) }
+        requires fits { Fits (setting context.now) self.old }
+        requires may { may_evict (setting context.now) self.old word.0 ≡ true }
+        ensures node { self.new ≡ (evicted (setting context.now) self.old word).0 }
+        ensures sent { sent.new ≡ (evicted (setting context.now) self.old word).1 }
+        ensures fits { Fits (setting context.now) self.new }
+    {
+        *sent = None;
+        self.give_up(context, word, sent);
+    }
+
     /// Evicts a word, which must be allowed (`may_evict`): a copy is removed, and a registered word is written back to its
     /// home. Takes no memory.
     pub fn evict(&mut self, context: &Context<'_>, word: WordId) -> Option<Outgoing>
@@ -84,7 +98,9 @@ impl Node {
         ensures sent { result ≡ (evicted (setting context.now) self.old word).1 }
         ensures fits { Fits (setting context.now) self.new }
     {
-        self.give_up(context, word)
+        let mut sent = None;
+        self.evict_into(context, word, &mut sent);
+        sent
     }
 
     /// Whether the node's task goes on, and its next instruction needs nothing besides the task's own registers.
