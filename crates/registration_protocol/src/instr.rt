@@ -464,8 +464,27 @@ impl Node {
         self.instruct_alone(context)
     }
 
-    /// The node's next instruction, by one look at it.
+    /// The node's next instruction, by what it needs.
     #[tactic(auto, unfolding(crate::specs::OwnEvents::instructed))]
+    #[inline(always)]
+    fn by_need(&mut self, context: &Context<'_>, sent: &mut Option<Outgoing>) -> Option<LoadSeen>
+        requires none { sent.old ≡ None }
+        requires context { IsContext (setting context.now) }
+        requires fits { Fits (setting context.now) self.old }
+        requires may { may_instr (setting context.now) self.old ≡ true }
+        ensures node { self.new ≡ (instructed (setting context.now) self.old).0 }
+        ensures step { record { sent = sent.new; seen = result } ≡ (instructed (setting context.now) self.old).1 }
+    {
+        let task = self.task.as_ref()?;
+        let declared = declaration(context.decoded.program(), self.phase, self.core)?;
+        if task.end.is_some() {
+            return None;
+        }
+        let need = context.decoded.need(task, declared, context.fuel);
+        self.perform(context, declared, &need, sent)
+    }
+
+    /// The node's next instruction. Most instructions need nothing: such a one is completed by one look, without the task's declaration.
     #[inline(always)]
     fn next(&mut self, context: &Context<'_>, sent: &mut Option<Outgoing>) -> Option<LoadSeen>
         requires none { sent.old ≡ None }
@@ -475,17 +494,30 @@ impl Node {
         ensures node { self.new ≡ (instructed (setting context.now) self.old).0 }
         ensures step { record { sent = sent.new; seen = result } ≡ (instructed (setting context.now) self.old).1 }
     {
-        // Most instructions need nothing. Such a one is completed by one look, without the task's declaration.
-        if compute(&mut self.task, context) {
-            return None;
+        if self.instruct_alone(context) {
+            None
+        } else {
+            self.by_need(context, sent)
         }
-        let task = self.task.as_ref()?;
-        let declared = declaration(context.decoded.program(), self.phase, self.core)?;
-        if task.end.is_some() {
-            return None;
-        }
-        let need = context.decoded.need(task, declared, context.fuel);
-        self.perform(context, declared, &need, sent)
+    }
+
+    /// The node's next instruction, as `instr_into` makes it, for a caller that has called `compute` before, which made none: it isn't
+    /// tried again. Takes no memory.
+    #[inline(always)]
+    pub fn other_instr_into(
+        &mut self,
+        context: &Context<'_>,
+        sent: &mut Option<Outgoing>,
+    ) -> Option<LoadSeen>
+        requires context { IsContext (setting context.now) }
+        requires fits { Fits (setting context.now) self.old }
+        requires may { may_instr (setting context.now) self.old ≡ true }
+        ensures node { self.new ≡ (instructed (setting context.now) self.old).0 }
+        ensures step { record { sent = sent.new; seen = result } ≡ (instructed (setting context.now) self.old).1 }
+        ensures fits { Fits (setting context.now) self.new }
+    {
+        *sent = None;
+        self.by_need(context, sent)
     }
 
     /// The node's next instruction, as `instr` makes it. What it sends is put into the caller's place, and the load that it completed
