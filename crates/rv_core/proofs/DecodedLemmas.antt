@@ -1,7 +1,8 @@
 -- A look at an instruction that was decoded before is a look at the word.
-use Rattle.std.proofs.Common.{◌≡◌, ℕ, ◌-◌, ◌/◌, ◌%◌, Bool, true, false, ◌&&◌, ◌==◌, nat_le, cond, List, map, slice_get, Option, Some, None, option_map, refl, sym, ap, ◌∙◌, arith}
+use Rattle.std.proofs.Common.{◌≡◌, ◌⊎◌, inl, inr, ℕ, ◌<◌, ◌≤◌, length, ◌-◌, ◌/◌, ◌%◌, Bool, true, false, ◌&&◌, ◌==◌, nat_le, cond, List, map, slice_get, Option, Some, None, option_map, refl, sym, ap, ◌∙◌, arith}
 use Rattle.std.proofs.lemmas.Bool.Decides.{nat_tests}
-use Rattle.std.proofs.lemmas.Option.{none-some, slice_get-map}
+use Rattle.std.proofs.lemmas.List.{length-map}
+use Rattle.std.proofs.lemmas.Option.{none-some, slice_get-map, slice_get_past}
 use Rattle.region_table.specs.Program.{ProgramParts}
 use Rattle.region_table.specs.declared.declared.TaskDecl.{TaskDecl}
 use Rattle.rv_isa.specs.Encoding.{decoded}
@@ -55,3 +56,20 @@ known-next P d fuel t i left is = by_test (t.retired == fuel) refl
 pub known-need-of : (P : ProgramParts) (d : TaskDecl) (fuel : ℕ) (t : TaskState) (i : Instr) → (t.retired ≡ fuel → ⊥) → instr_at P t ≡ Some i
     → instr_need P d t i ≡ need_of P d fuel t
 known-need-of P d fuel t i left is = ap (λ (n : Next). n.need) (known-next P d fuel t i left is)
+
+-- there are as many instructions as code words
+pub count-decoded : (P : ProgramParts) (instrs : List (Option Instr)) → IsDecoded P instrs → length P.code ≤ 16384 → length instrs ≤ 16384
+count-decoded P instrs is few = rw (is, length-map P.code decoded) few
+
+-- a place that is the one of a code word's address, and is too great for any other address
+pub found-place : (instrs : List (Option Instr)) (pc place : ℕ) → length instrs ≤ 16384 → (4096 ≤ pc → pc % 4 ≡ 0 → place ≡ (pc - 4096) / 4) → ((pc < 4096) ⊎ (0 < pc % 4) → 65536 ≤ place)
+    → decoded_entry (slice_get instrs place) ≡ found_at instrs pc
+found-place instrs pc place few here nowhere = by_tests (nat_le 4096 pc) (pc % 4 == 0) refl refl
+  where
+    past : 65536 ≤ place → decoded_entry (slice_get instrs place) ≡ None
+    past far = ap decoded_entry (slice_get_past instrs place (omega (arith, few, far)))
+
+    by_tests : (a b : Bool) → nat_le 4096 pc ≡ a → (pc % 4 == 0) ≡ b → decoded_entry (slice_get instrs place) ≡ cond (a && b) (decoded_entry (slice_get instrs ((pc - 4096) / 4))) None
+    by_tests true true x y = ap (λ (i : ℕ). decoded_entry (slice_get instrs i)) (here (grind (arith, nat_tests)) (grind (arith, nat_tests)))
+    by_tests true false x y = past (nowhere (inr (grind (arith, nat_tests))))
+    by_tests false b x y = past (nowhere (inl (grind (arith, nat_tests))))

@@ -1,4 +1,4 @@
-ghost use Rattle.std.specs.Prelude.{◌≡◌, ◌+◌, ◌<◌, ◌≤◌, length};
+ghost use Rattle.std.specs.Prelude.{◌≡◌, ◌⊎◌, ◌+◌, ◌-◌, ◌/◌, ◌%◌, ◌<◌, ◌≤◌, length};
 ghost use Rattle.rv_core.specs.Address.{code_at, data_at, size_of, byte_at, half_at, extended, replaced};
 
 use rv_isa::Width;
@@ -18,6 +18,17 @@ pub(crate) fn code_word(code: &[u32], pc: u32) -> Option<u32>
     } else {
         None
     }
+}
+
+/// Where the code word of an address stands among the code words. For an address at which none can stand it is a number that is too great
+/// for any program's code. So one comparison with the length of the code tells whether a word is there.
+#[inline(always)]
+pub(crate) fn code_place(pc: u32) -> u32
+    ensures here { 4096 ≤ pc → pc % 4 ≡ 0 → result ≡ (pc - 4096) / 4 }
+    ensures nowhere { (pc < 4096) ⊎ (0 < pc % 4) → 65536 ≤ result }
+{
+    // Where an address isn't a multiple of 4, its low bits come to the top. An address below the code wraps.
+    pc.wrapping_sub(CODE).rotate_right(2)
 }
 
 /// The data word at an address, in a memory of `words` words, or None where none stands there.

@@ -1,13 +1,13 @@
-ghost use Rattle.std.specs.Prelude.{◌≡◌, ◌↔◌, ◌≤◌, true, false, None, length, option_copied, IfOk};
+ghost use Rattle.std.specs.Prelude.{◌≡◌, ◌↔◌, ◌≤◌, true, false, None, length, slice_get, option_copied, IfOk};
 ghost use Rattle.region_table.specs.declared.declared.TaskDecl.{TaskDecl as ATask};
-ghost use Rattle.rv_core.specs.Decoded.{found_at, IsDecoded};
+ghost use Rattle.rv_core.specs.Decoded.{decoded_entry, found_at, IsDecoded};
 ghost use Rattle.rv_core.specs.Kinds.{Allowed, EndsByFuel, IsAdvance, IsLoad, IsStore};
 ghost use Rattle.rv_core.specs.Need.{need_of};
 ghost use Rattle.rv_core.specs.declared.need.Need.TheVariants.{Local as NeedsNothing};
 ghost use Rattle.rv_core.specs.Next.{IsNextOf};
 ghost use Rattle.rv_core.specs.Step.{instr_at, advanced, loaded_of, merged_of};
 
-use crate::address::CODE;
+use crate::address::code_place;
 use crate::need::{Need, Next, instruction};
 use crate::task::TaskState;
 use dn_base::Memory;
@@ -46,19 +46,24 @@ impl DecodedCode {
         Ok(DecodedCode { instrs })
     }
 
+    /// The instruction at a place, or None if the word there is no instruction. From the length on there is none.
+    #[inline(always)]
+    fn entry(&self, place: usize) -> Option<&Instr>
+        ensures { option_copied result ≡ decoded_entry (slice_get self.now place) }
+    {
+        match self.instrs.as_slice().get(place) {
+            Some(instr) => instr.as_ref(),
+            None => None,
+        }
+    }
+
     /// The instruction at an address, or None if no code word is there or the word is no instruction.
     #[inline(always)]
     pub(crate) fn at(&self, pc: u32) -> Option<&Instr>
+        requires { length self.now ≤ 16384 }
         ensures { option_copied result ≡ found_at self.now pc }
     {
-        if pc >= CODE && pc % 4 == 0 {
-            match self.instrs.as_slice().get(((pc - CODE) / 4) as usize) {
-                Some(instr) => instr.as_ref(),
-                None => None,
-            }
-        } else {
-            None
-        }
+        self.entry(code_place(pc) as usize)
     }
 }
 
@@ -93,6 +98,8 @@ impl TaskState {
         ensures fuel { EndsByFuel result.need ↔ (self.now.retired ≡ fuel) }
         ensures allowed { Allowed program.now task.now self.now result.need }
     {
+        // for the proof alone: the read brings the program's invariant, by which it has at most 16,384 code words
+        let _code = &program.code;
         self.look_known(program, task, fuel, code.at(self.pc))
     }
 }
@@ -169,6 +176,8 @@ impl DecodedProgram {
     fn instr(&self, state: &TaskState) -> Option<&Instr>
         ensures { option_copied result ≡ instr_at self.now state.now }
     {
+        // for the proof alone: the read brings the program's invariant, by which it has at most 16,384 code words
+        let _code = &self.program.code;
         self.code.at(state.pc)
     }
 
