@@ -14,6 +14,7 @@ pub mod PickLaws
 pub mod ScheduleLaws
 mod Noted
 mod Making
+mod Staying
 mod EndLists
 pub mod LogLemmas
 pub mod RunLemmas

@@ -2,14 +2,14 @@ ghost use Rattle.std.specs.Prelude.{◌≡◌, ◌<◌, ◌≤◌, true, length,
 ghost use Rattle.message_net.specs.declared.actor.Actor.TheVariants.{Core as TheCore, Bank as TheBank, Keeper as TheKeeper};
 ghost use Rattle.message_net.specs.declared.event.Event.TheVariants.{Instr as AnInstr, Evict as AnEvict, Arrive as AnArrive, Handle as HandleOf};
 ghost use Rattle.registration_protocol.specs.Node.{NodeParts};
-ghost use Rattle.registration_protocol.specs.OwnEvents.{own_event};
+ghost use Rattle.registration_protocol.specs.OwnEvents.{me, own_event};
 ghost use Rattle.registration_protocol.specs.Setting.{setting};
 ghost use Rattle.machine_rules.specs.Next.{sends, next, enabled, gets, grant_of_mail, granted_by, observed, core_gets, bank_handles, keeper_handles};
 ghost use Rattle.phase_barrier.specs.Barrier.{keeper_gets};
 ghost use Rattle.dn_machine.specs.Content.{state_of, KnowsOwn, IsWhole};
 
 use crate::content::Content;
-use crate::places::{arrive_at, evict_at, handle_at, instruct_at, own_at, receive_at};
+use crate::places::{arrive_at, evict_at, handle_at, instr_at, instruct_at, own_at, receive_at};
 use crate::posting::{send, send_letters};
 use dn_base::{BankId, CoreId, Grant, WordId};
 use machine_rules::Stepped;
@@ -51,6 +51,66 @@ impl Content {
         self.own.set(place, own);
     }
 
+    /// What a core sends is in flight, and nothing else changes. The context is there for the clauses alone.
+    #[inline(always)]
+    fn core_posts(&mut self, context: &Context<'_>, core: CoreId, sent: &Option<Outgoing>)
+        requires whole { IsWhole (state_of (setting context.now) self.old) }
+        requires core { core.0 < length self.old.nodes.items }
+        requires spare { 1 ≤ self.old.pool.spare }
+        ensures state { state_of (setting context.now) self.new ≡ sends (state_of (setting context.now) self.old) (TheCore core) sent.now }
+        ensures own { self.new.own ≡ self.old.own }
+    {
+        send(
+            &mut self.pool,
+            &mut self.numbers,
+            core.0 as usize,
+            Actor::Core(core),
+            sent,
+        );
+    }
+
+    /// What a core sends that got a mail is in flight, and what it does next by itself is known. A core whose instruction may
+    /// come keeps it, so that it isn't looked for.
+    #[inline(always)]
+    fn core_got(&mut self, context: &Context<'_>, core: CoreId, sent: &Option<Outgoing>)
+        requires whole { IsWhole (state_of (setting context.now) self.old) }
+        requires core { core.0 < length self.old.nodes.items }
+        requires spare { 1 ≤ self.old.pool.spare }
+        requires stays { (n : NodeParts) (c : CoreId) → slice_get self.old.nodes.items core.0 ≡ Some n
+            → slice_get self.old.own core.0 ≡ Some (Some (AnInstr c)) → own_event (setting context.now) n ≡ Some (AnInstr c) }
+        ensures state { state_of (setting context.now) self.new ≡ sends (state_of (setting context.now) self.old) (TheCore core) sent.now }
+        ensures own { (n : NodeParts) → slice_get self.old.nodes.items core.0 ≡ Some n
+            → self.new.own ≡ slice_set self.old.own core.0 (own_event (setting context.now) n) }
+    {
+        if self.own.has_instr(core) {
+            self.core_posts(context, core, sent);
+            return;
+        }
+        self.core_sends(context, core, sent);
+    }
+
+    /// What a core sends that evicted a word is in flight, and what it does next by itself is known. If it sends nothing, the
+    /// word has made room for the one that its instruction lacks.
+    #[inline(always)]
+    fn core_evicted(&mut self, context: &Context<'_>, core: CoreId, sent: &Option<Outgoing>)
+        requires whole { IsWhole (state_of (setting context.now) self.old) }
+        requires core { core.0 < length self.old.nodes.items }
+        requires spare { 1 ≤ self.old.pool.spare }
+        requires room { (n : NodeParts) → slice_get self.old.nodes.items core.0 ≡ Some n → sent.now ≡ None
+            → own_event (setting context.now) n ≡ Some (AnInstr (me n)) }
+        ensures state { state_of (setting context.now) self.new ≡ sends (state_of (setting context.now) self.old) (TheCore core) sent.now }
+        ensures own { (n : NodeParts) → slice_get self.old.nodes.items core.0 ≡ Some n
+            → self.new.own ≡ slice_set self.old.own core.0 (own_event (setting context.now) n) }
+    {
+        if sent.is_some() {
+            self.core_sends(context, core, sent);
+            return;
+        }
+        let place = core.0 as usize;
+        let own = instr_at(self.nodes.as_slice(), place);
+        self.own.set(place, Some(own));
+    }
+
     /// The next instruction of a core, which may go on.
     #[inline(always)]
     pub(crate) fn instruct(&mut self, context: &Context<'_>, core: CoreId) -> Stepped
@@ -84,7 +144,7 @@ impl Content {
         ensures known { KnowsOwn (setting context.now) self.new }
     {
         let sent = evict_at(&mut self.nodes, core.0 as usize, context, word);
-        self.core_sends(context, core, &sent);
+        self.core_evicted(context, core, &sent);
         silent(EventKind::Evict)
     }
 
@@ -119,7 +179,7 @@ impl Content {
             return None;
         }
         let received = receive_at(&mut self.nodes, place, context, *message);
-        self.core_sends(context, core, &received.sent);
+        self.core_got(context, core, &received.sent);
         received.granted
     }
 

@@ -1,8 +1,9 @@
-ghost use Rattle.std.specs.Prelude.{◌≡◌, ◌<◌, ◌≤◌, length, take, slice_get, slice_set};
+ghost use Rattle.std.specs.Prelude.{◌≡◌, ◌<◌, ◌≤◌, Some, true, length, take, slice_get, slice_set};
+ghost use Rattle.message_net.specs.declared.event.Event.TheVariants.{Instr as AnInstr};
 ghost use Rattle.dn_machine.specs.OwnRow.{cores_with};
 ghost use Rattle.dn_machine.specs.Pick.{known_events};
 
-use dn_base::MOST_CORES;
+use dn_base::{CoreId, MOST_CORES};
 use message_net::Event;
 use std::marker::Model;
 
@@ -67,6 +68,14 @@ impl OwnRow {
         if event.is_some() != had {
             self.count = list_cores(&self.own, &mut self.cores);
         }
+    }
+
+    /// Whether the own event of a core is its instruction.
+    #[inline(always)]
+    pub(crate) fn has_instr(&self, core: CoreId) -> bool
+        ensures { result ≡ true → (c : CoreId) × (slice_get self.now core.0 ≡ Some (Some (AnInstr c))) }
+    {
+        matches!(self.own.get(core.0 as usize), Some(Some(Event::Instr(_))))
     }
 
     /// How many cores have an own event.

@@ -1,7 +1,8 @@
 ghost use Rattle.std.specs.Prelude.{◌≡◌, ◌<◌, true, length, slice_get, slice_set, Some};
+ghost use Rattle.message_net.specs.declared.event.Event.TheVariants.{Instr as AnInstr};
 ghost use Rattle.registration_protocol.specs.Fit.{IsContext, Fits};
 ghost use Rattle.registration_protocol.specs.Node.{NodeParts};
-ghost use Rattle.registration_protocol.specs.OwnEvents.{may_instr, may_evict, may_arrive, instructed, evicted, arrives, own_event};
+ghost use Rattle.registration_protocol.specs.OwnEvents.{may_instr, may_evict, may_arrive, instructed, evicted, arrives, me, own_event};
 ghost use Rattle.registration_protocol.specs.Messages.{node_gets};
 ghost use Rattle.registration_protocol.specs.Setting.{setting};
 ghost use Rattle.registry_bank.specs.Bank.{BankParts, bank_gets};
@@ -95,6 +96,16 @@ pub(crate) fn own_at(nodes: &[Node], place: usize, context: &Context<'_>) -> Opt
 {
     let node = &nodes[place];
     node.own(context)
+}
+
+/// The instruction of the node at this place, as an event.
+#[inline(always)]
+pub(crate) fn instr_at(nodes: &[Node], place: usize) -> Event
+    requires place { place < length nodes.now }
+    ensures { (n : NodeParts) → slice_get nodes.now place ≡ Some n → result ≡ AnInstr (me n) }
+{
+    let node = &nodes[place];
+    Event::Instr(node.core())
 }
 
 /// The bank at this place gets a message.

@@ -56,21 +56,23 @@ fn core_of(actor: Actor) -> Option<CoreId>
 impl Content {
     /// How the task of a core stands, where a core is asked for.
     #[inline(always)]
-    fn end_there(&self, core: Option<CoreId>) -> Option<TaskEnd>
+    fn end_there(&self, context: &Context<'_>, core: Option<CoreId>) -> Option<TaskEnd>
+        requires known { KnowsOwn (setting context.now) self.now }
         ensures { (C : Setting) → result ≡ end_there (state_of C self.now) core }
     {
         match core {
-            Some(core) => self.task_end(core),
+            Some(core) => self.end_known(context, core),
             None => None,
         }
     }
 
     /// Notes how the task of a core stands, where a core is asked for, and its task has ended or waits for a lock.
     #[inline(always)]
-    fn note_end(&self, core: Option<CoreId>, log: &mut Log)
+    fn note_end(&self, context: &Context<'_>, core: Option<CoreId>, log: &mut Log)
+        requires known { KnowsOwn (setting context.now) self.now }
         ensures { (C : Setting) → log.new ≡ record log.old { ends = with_end (end_there (state_of C self.now) core) log.old.ends } }
     {
-        if let Some(end) = self.end_there(core) {
+        if let Some(end) = self.end_there(context, core) {
             log.note_end(end);
         }
     }
@@ -93,7 +95,7 @@ impl Content {
         // It is noted first, so that it needn't be kept until it has come. It grants nothing.
         log.note_event(event, event.own_kind())?;
         self.act(context, event);
-        self.note_end(own_core(event), log);
+        self.note_end(context, own_core(event), log);
         Ok(())
     }
 
@@ -123,7 +125,7 @@ impl Content {
         log.note_event(Event::Handle(mail.id), mail.message.kind())?;
         let granted = self.deliver(context, mail.to, &mail.message);
         log.note_grant(granted)?;
-        self.note_end(core_of(mail.to), log);
+        self.note_end(context, core_of(mail.to), log);
         Ok(())
     }
 
