@@ -1,7 +1,7 @@
 ghost use Rattle.std.specs.Prelude.{◌≡◌, ◌<◌, ◌≤◌, true, false, ℕ, length, Some, None, Ok, IfOk, OnOk, slice_get};
 ghost use Rattle.message_net.specs.declared.message.Mail.{Mail};
 ghost use Rattle.message_net.specs.declared.event.Event.{Event as AnEvent};
-ghost use Rattle.message_net.specs.declared.event.Event.TheVariants.{Handle as HandleOf};
+ghost use Rattle.message_net.specs.declared.event.Event.TheVariants.{Instr as AnInstr, Evict as AnEvict, Arrive as AnArrive, Handle as HandleOf};
 ghost use Rattle.message_net.specs.declared.event.EventKind.{EventKind};
 ghost use Rattle.grant_log.specs.Counts.{kind_count};
 ghost use Rattle.message_net.specs.Pool.{AreDistinct};
@@ -22,24 +22,11 @@ use crate::draws::{draw, generator};
 use crate::log::{Log, listed_ends};
 use crate::picking::{Choice, choose};
 use crate::record::RunRecord;
-use dn_base::{CoreId, Memory, Sequence};
-use message_net::{Actor, Event};
+use dn_base::{CoreId, Memory, Sequence, WordId};
+use message_net::{Actor, Event, EventKind};
 use registration_protocol::Context;
 use rv_core::{Ending, TaskEnd, outcome};
 use std::alloc::Global;
-
-/// The core whose own event it is; None for the handling of a mail.
-#[inline(always)]
-fn own_core(event: Event) -> Option<CoreId>
-    ensures { result ≡ own_core event }
-{
-    match event {
-        Event::Instr(core) => Some(core),
-        Event::Evict(core, _) => Some(core),
-        Event::Arrive(core) => Some(core),
-        Event::Handle(_) => None,
-    }
-}
 
 /// The actor, where it is a core.
 #[inline(always)]
@@ -77,6 +64,82 @@ impl Content {
         }
     }
 
+    /// Makes and notes the next instruction of a core, which may go on.
+    ///
+    /// # Errors
+    /// `Memory` where there is no room for the log.
+    #[inline(always)]
+    fn make_instr(
+        &mut self,
+        context: &Context<'_>,
+        core: CoreId,
+        log: &mut Log,
+    ) -> Result<(), Memory>
+        requires whole { IsWhole (state_of (setting context.now) self.old) }
+        requires known { KnowsOwn (setting context.now) self.old }
+        requires may { enabled (state_of (setting context.now) self.old) (AnInstr core) ≡ true }
+        requires spare { (setting context.now).shape.cores ≤ self.old.pool.spare }
+        requires few { (kind : EventKind) → kind_count kind log.old.counts < 18446744073709551615 }
+        ensures came { OnOk result (CameAndNoted (state_of (setting context.now) self.old) (state_of (setting context.now) self.new) (AnInstr core) log.old log.new) }
+        ensures known { KnowsOwn (setting context.now) self.new }
+    {
+        log.note_event(Event::Instr(core), EventKind::Instr)?;
+        self.instruct(context, core);
+        self.note_end(context, Some(core), log);
+        Ok(())
+    }
+
+    /// Makes and notes the eviction of a word by a core, which may evict it.
+    ///
+    /// # Errors
+    /// `Memory` where there is no room for the log.
+    #[inline(always)]
+    fn make_evict(
+        &mut self,
+        context: &Context<'_>,
+        core: CoreId,
+        word: WordId,
+        log: &mut Log,
+    ) -> Result<(), Memory>
+        requires whole { IsWhole (state_of (setting context.now) self.old) }
+        requires known { KnowsOwn (setting context.now) self.old }
+        requires may { enabled (state_of (setting context.now) self.old) (AnEvict core word) ≡ true }
+        requires spare { (setting context.now).shape.cores ≤ self.old.pool.spare }
+        requires few { (kind : EventKind) → kind_count kind log.old.counts < 18446744073709551615 }
+        ensures came { OnOk result (CameAndNoted (state_of (setting context.now) self.old) (state_of (setting context.now) self.new) (AnEvict core word) log.old log.new) }
+        ensures known { KnowsOwn (setting context.now) self.new }
+    {
+        log.note_event(Event::Evict(core, word), EventKind::Evict)?;
+        self.evict(context, core, word);
+        self.note_end(context, Some(core), log);
+        Ok(())
+    }
+
+    /// Makes and notes the arrival of a core at the barrier, which may arrive.
+    ///
+    /// # Errors
+    /// `Memory` where there is no room for the log.
+    #[inline(always)]
+    fn make_arrive(
+        &mut self,
+        context: &Context<'_>,
+        core: CoreId,
+        log: &mut Log,
+    ) -> Result<(), Memory>
+        requires whole { IsWhole (state_of (setting context.now) self.old) }
+        requires known { KnowsOwn (setting context.now) self.old }
+        requires may { enabled (state_of (setting context.now) self.old) (AnArrive core) ≡ true }
+        requires spare { (setting context.now).shape.cores ≤ self.old.pool.spare }
+        requires few { (kind : EventKind) → kind_count kind log.old.counts < 18446744073709551615 }
+        ensures came { OnOk result (CameAndNoted (state_of (setting context.now) self.old) (state_of (setting context.now) self.new) (AnArrive core) log.old log.new) }
+        ensures known { KnowsOwn (setting context.now) self.new }
+    {
+        log.note_event(Event::Arrive(core), EventKind::Arrive)?;
+        self.arrive(context, core);
+        self.note_end(context, Some(core), log);
+        Ok(())
+    }
+
     /// Makes and notes the own event of a core, which may come.
     ///
     /// # Errors
@@ -93,10 +156,12 @@ impl Content {
         ensures known { KnowsOwn (setting context.now) self.new }
     {
         // It is noted first, so that it needn't be kept until it has come. It grants nothing.
-        log.note_event(event, event.own_kind())?;
-        self.act(context, event);
-        self.note_end(context, own_core(event), log);
-        Ok(())
+        match event {
+            Event::Instr(core) => self.make_instr(context, core, log),
+            Event::Evict(core, word) => self.make_evict(context, core, word, log),
+            Event::Arrive(core) => self.make_arrive(context, core, log),
+            Event::Handle(_) => unreachable!(),
+        }
     }
 
     /// Removes the mail at an index of the pool, makes its handling, and notes it.
