@@ -1,5 +1,6 @@
-ghost use Rattle.std.specs.Prelude.{◌≡◌, ◌<◌, ◌≤◌, true, length, slice_get, slice_set, Some, None};
+ghost use Rattle.std.specs.Prelude.{◌≡◌, ◌<◌, ◌≤◌, true, false, length, slice_get, slice_set, Some, None};
 ghost use Rattle.message_net.specs.declared.actor.Actor.TheVariants.{Core as TheCore, Bank as TheBank, Keeper as TheKeeper};
+ghost use Rattle.message_net.specs.declared.event.EventKind.TheVariants.{Instr as InstrKind};
 ghost use Rattle.message_net.specs.declared.event.Event.TheVariants.{Instr as AnInstr, Evict as AnEvict, Arrive as AnArrive, Handle as HandleOf};
 ghost use Rattle.registration_protocol.specs.Node.{NodeParts};
 ghost use Rattle.registration_protocol.specs.OwnEvents.{me, own_event};
@@ -9,7 +10,9 @@ ghost use Rattle.phase_barrier.specs.Barrier.{keeper_gets};
 ghost use Rattle.dn_machine.specs.Content.{state_of, KnowsOwn, IsWhole};
 
 use crate::content::Content;
-use crate::places::{arrive_at, evict_at, handle_at, instr_at, instruct_at, own_at, receive_at};
+use crate::places::{
+    arrive_at, compute_at, evict_at, handle_at, instr_at, instruct_at, own_at, receive_at,
+};
 use crate::posting::{send, send_letters};
 use dn_base::{BankId, CoreId, Grant, WordId};
 use machine_rules::Stepped;
@@ -111,9 +114,30 @@ impl Content {
         self.own.set(place, Some(own));
     }
 
-    /// The next instruction of a core, which may go on.
+    /// Completes the next instruction of a core, which may go on, if it needs nothing besides the task's own registers. Otherwise it
+    /// does nothing. Returns whether it completed one.
     #[inline(always)]
-    pub(crate) fn instruct(&mut self, context: &Context<'_>, core: CoreId) -> Stepped
+    fn compute(&mut self, context: &Context<'_>, core: CoreId) -> bool
+        requires whole { IsWhole (state_of (setting context.now) self.old) }
+        requires known { KnowsOwn (setting context.now) self.old }
+        requires may { enabled (state_of (setting context.now) self.old) (AnInstr core) ≡ true }
+        requires spare { 1 ≤ self.old.pool.spare }
+        ensures state { result ≡ true → state_of (setting context.now) self.new ≡ next (state_of (setting context.now) self.old) (AnInstr core) }
+        ensures observed { result ≡ true → record { kind = InstrKind; seen = None; granted = None } ≡ observed (state_of (setting context.now) self.old) (AnInstr core) }
+        ensures known { result ≡ true → KnowsOwn (setting context.now) self.new }
+        ensures left { result ≡ false → (state_of (setting context.now) self.new ≡ state_of (setting context.now) self.old)
+            × (self.new.own ≡ self.old.own) × (self.new.pool ≡ self.old.pool) }
+    {
+        if !compute_at(&mut self.nodes, core.0 as usize, context) {
+            return false;
+        }
+        self.core_sends(context, core, &None);
+        true
+    }
+
+    /// The next instruction of a core, which may go on, where `compute` completed none.
+    #[inline(always)]
+    fn instruct_by_need(&mut self, context: &Context<'_>, core: CoreId) -> Stepped
         requires whole { IsWhole (state_of (setting context.now) self.old) }
         requires known { KnowsOwn (setting context.now) self.old }
         requires may { enabled (state_of (setting context.now) self.old) (AnInstr core) ≡ true }
@@ -130,6 +154,24 @@ impl Content {
             seen,
             granted: None,
         }
+    }
+
+    /// The next instruction of a core, which may go on. Most instructions need nothing, and so send nothing: for these no place for a
+    /// message is made ready.
+    #[inline(always)]
+    pub(crate) fn instruct(&mut self, context: &Context<'_>, core: CoreId) -> Stepped
+        requires whole { IsWhole (state_of (setting context.now) self.old) }
+        requires known { KnowsOwn (setting context.now) self.old }
+        requires may { enabled (state_of (setting context.now) self.old) (AnInstr core) ≡ true }
+        requires spare { 1 ≤ self.old.pool.spare }
+        ensures state { state_of (setting context.now) self.new ≡ next (state_of (setting context.now) self.old) (AnInstr core) }
+        ensures observed { result ≡ observed (state_of (setting context.now) self.old) (AnInstr core) }
+        ensures known { KnowsOwn (setting context.now) self.new }
+    {
+        if self.compute(context, core) {
+            return silent(EventKind::Instr);
+        }
+        self.instruct_by_need(context, core)
     }
 
     /// A core, which may, evicts a word.

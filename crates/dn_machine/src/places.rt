@@ -1,4 +1,4 @@
-ghost use Rattle.std.specs.Prelude.{◌≡◌, ◌<◌, true, length, slice_get, slice_set, Some};
+ghost use Rattle.std.specs.Prelude.{◌≡◌, ◌<◌, true, false, length, slice_get, slice_set, Some, None};
 ghost use Rattle.message_net.specs.declared.event.Event.TheVariants.{Instr as AnInstr};
 ghost use Rattle.registration_protocol.specs.Fit.{IsContext, Fits};
 ghost use Rattle.registration_protocol.specs.Node.{NodeParts};
@@ -12,7 +12,25 @@ use message_net::{Event, Message, Outgoing};
 use registration_protocol::{Context, Node, Received};
 use registry_bank::Bank;
 
-/// The next instruction of the node at this place. What it sends is put into the caller's place.
+/// Completes the next instruction of the node at this place, if it needs nothing besides the task's own registers. Otherwise it does
+/// nothing. Returns whether it completed one.
+#[inline(always)]
+pub(crate) fn compute_at(nodes: &mut Vec<Node>, place: usize, context: &Context<'_>) -> bool
+    requires context { IsContext (setting context.now) }
+    requires place { place < length nodes.old.items }
+    requires fits { (n : NodeParts) → slice_get nodes.old.items place ≡ Some n → Fits (setting context.now) n }
+    requires may { (n : NodeParts) → slice_get nodes.old.items place ≡ Some n → may_instr (setting context.now) n ≡ true }
+    ensures done { result ≡ true → (n : NodeParts) → slice_get nodes.old.items place ≡ Some n
+        → (nodes.new.items ≡ slice_set nodes.old.items place (instructed (setting context.now) n).0)
+        × (record { sent = None; seen = None } ≡ (instructed (setting context.now) n).1)
+        × Fits (setting context.now) (instructed (setting context.now) n).0 }
+    ensures left { result ≡ false → nodes.new.items ≡ nodes.old.items }
+{
+    let node = &mut nodes[place];
+    node.compute(context)
+}
+
+/// The next instruction of the node at this place, where `compute_at` made none. What it sends is put into the caller's place.
 #[inline(always)]
 pub(crate) fn instruct_at(
     nodes: &mut Vec<Node>,
@@ -30,7 +48,7 @@ pub(crate) fn instruct_at(
         × Fits (setting context.now) (instructed (setting context.now) n).0 }
 {
     let node = &mut nodes[place];
-    node.instr_into(context, sent)
+    node.other_instr_into(context, sent)
 }
 
 /// The node at this place evicts a word.

@@ -1,52 +1,28 @@
-use Rattle.std.proofs.Common.{◌≡◌, refl, sym, ap, ◌∙◌}
-use Rattle.std.proofs.lemmas.Option.{slice_get_within}
+use Rattle.std.proofs.Common.{◌≡◌, ◌≤◌, true, map, sym, ap, subst, ◌∙◌}
+use Rattle.message_net.specs.declared.event.Event.TheVariants.{Instr}
+use Rattle.registration_protocol.specs.OwnEvents.{own_event}
 use Rattle.registration_protocol.specs.Setting.{setting}
-use Rattle.registration_protocol.specs.declared.node.Step.{Step}
 use Rattle.machine_rules.specs.State.{State}
-use Rattle.dn_machine.specs.Content.{state_of}
-use Rattle.dn_machine.proofs.CoreEvents.{instr-there, instr-next, instr-told, core-sent, whole-put, within-put, known-after}
+use Rattle.machine_rules.specs.Next.{next, enabled, observed}
+use Rattle.dn_machine.specs.Content.{in_row, IsWhole}
 use Rattle.dn_machine.proofs.content.Content.instruct.Goals as goal
 
-pub instruct_at-seen-requires-clause-place : goal.instruct_at-seen-requires-clause-place
-instruct_at-seen-requires-clause-place c =
-    let there = instr-there (state_of (setting c.args.context.now) c.args.self.now) c.args.core c.requires.may in
-    slice_get_within _ _ there.0 there.1
+pub instruct_by_need-requires-clause-whole : goal.instruct_by_need-requires-clause-whole
+instruct_by_need-requires-clause-whole c = subst IsWhole (sym (c.compute.ensures.left c.if-compute.false).0) c.requires.whole
 
-pub instruct_at-seen-requires-clause-fits : goal.instruct_at-seen-requires-clause-fits
-instruct_at-seen-requires-clause-fits c = λ n here. c.requires.whole.fits c.args.core.0 n here
+pub instruct_by_need-requires-clause-known : goal.instruct_by_need-requires-clause-known
+instruct_by_need-requires-clause-known c =
+    let left = c.compute.ensures.left c.if-compute.false in
+    left.1 ∙ c.requires.known ∙ ap (λ (S : State). in_row (map (own_event (setting c.args.context.now)) S.nodes)) (sym left.0)
 
-pub instruct_at-seen-requires-clause-may : goal.instruct_at-seen-requires-clause-may
-instruct_at-seen-requires-clause-may c = λ n here.
-    let there = instr-there (state_of (setting c.args.context.now) c.args.self.now) c.args.core c.requires.may in
-    let same : there.0 ≡ n = cc in
-    rw same at there.2
+pub instruct_by_need-requires-clause-may : goal.instruct_by_need-requires-clause-may
+instruct_by_need-requires-clause-may c = subst (λ (S : State). enabled S (Instr c.args.core) ≡ true) (sym (c.compute.ensures.left c.if-compute.false).0) c.requires.may
 
-pub core_sends-requires-clause-whole : goal.core_sends-requires-clause-whole
-core_sends-requires-clause-whole c =
-    let there = instr-there (state_of (setting c.args.context.now) c.args.self.now) c.args.core c.requires.may in
-    let does = c.instruct_at-seen.ensures there.0 there.1 in
-    whole-put (state_of (setting c.args.context.now) c.args.self.now) c.args.core.0 _ _ does.0 c.requires.whole (slice_get_within _ _ there.0 there.1) does.2
-
-pub core_sends-requires-clause-core : goal.core_sends-requires-clause-core
-core_sends-requires-clause-core c =
-    let there = instr-there (state_of (setting c.args.context.now) c.args.self.now) c.args.core c.requires.may in
-    let does = c.instruct_at-seen.ensures there.0 there.1 in
-    within-put c.args.self.now.nodes.items c.args.core.0 _ _ does.0 (slice_get_within _ _ there.0 there.1)
+pub instruct_by_need-requires-clause-spare : goal.instruct_by_need-requires-clause-spare
+instruct_by_need-requires-clause-spare c = rw (c.compute.ensures.left c.if-compute.false).2 c.requires.spare
 
 pub returns-clause-state : goal.returns-clause-state
-returns-clause-state c =
-    let there = instr-there (state_of (setting c.args.context.now) c.args.self.now) c.args.core c.requires.may in
-    let does = c.instruct_at-seen.ensures there.0 there.1 in
-    c.core_sends.ensures.state ∙ (core-sent (state_of (setting c.args.context.now) c.args.self.now) c.args.core _ _ _ _ does.0 (ap (λ (s : Step). s.sent) does.1) ∙ sym (instr-next (state_of (setting c.args.context.now) c.args.self.now) c.args.core there.0 there.1))
-
-pub returns-clause-known : goal.returns-clause-known
-returns-clause-known c =
-    let there = instr-there (state_of (setting c.args.context.now) c.args.self.now) c.args.core c.requires.may in
-    let does = c.instruct_at-seen.ensures there.0 there.1 in
-    known-after (setting c.args.context.now) c.args.self.now.nodes.items c.args.self.now.own c.args.core.0 _ _ _ _ c.requires.known (slice_get_within _ _ there.0 there.1) does.0 (ap (λ (S : State). S.nodes) c.core_sends.ensures.state) c.core_sends.ensures.own
+returns-clause-state c = c.instruct_by_need.ensures.state ∙ ap (λ (S : State). next S (Instr c.args.core)) (c.compute.ensures.left c.if-compute.false).0
 
 pub returns-clause-observed : goal.returns-clause-observed
-returns-clause-observed c =
-    let there = instr-there (state_of (setting c.args.context.now) c.args.self.now) c.args.core c.requires.may in
-    let does = c.instruct_at-seen.ensures there.0 there.1 in
-    rw (instr-told (state_of (setting c.args.context.now) c.args.self.now) c.args.core there.0 there.1, ap (λ (s : Step). s.seen) does.1) refl
+returns-clause-observed c = c.instruct_by_need.ensures.observed ∙ ap (λ (S : State). observed S (Instr c.args.core)) (c.compute.ensures.left c.if-compute.false).0
