@@ -13,7 +13,7 @@ use Rattle.rv_assembler.specs.declared.draft.Claim.{Claim}
 use Rattle.rv_assembler.specs.Union.{united}
 use Rattle.rv_assembler.specs.Program.{is_claim_of, is_task}
 use Rattle.rv_assembler.specs.Finishing.{words_within, guarded_reads_within, guarded_writes_within, effects_within, task_within, core_task_within, phase_within}
-use Rattle.rv_assembler.specs.ClaimRows.{usage_number, claim_row, HasClaims, words_by_rows, guarded_reads_by_rows, guarded_writes_by_rows, effects_by_rows, task_by_rows, core_task_by_rows, phase_by_rows}
+use Rattle.rv_assembler.specs.ClaimRows.{usage_number, claim_row, HasClaims, words_by_rows, guarded_by_rows, effects_by_rows, task_by_rows, core_task_by_rows, phase_by_rows}
 
 same-map : {X : Type 0} (f g : ℕ → X) (a n : ℕ) → ((i : ℕ) → a ≤ i → i < a + n → f i ≡ g i) → map f (range_with_len a n) ≡ map g (range_with_len a n)
 same-map f g a zero h = refl
@@ -62,10 +62,10 @@ module _ (words phases locks : ℕ) (claims : List Claim) (rows : List (List Int
       let own : List Claim = filter (is_claim_of t) claims in
       let r = words-same t Reads c p (omega arith) in
       let w = words-same t Writes c p (omega arith) in
-      let gr = same-map (guarded_reads_by_rows rows t) (guarded_reads_within words own) 0 locks (λ i l m. words-same t (GuardedReads i) c p (omega arith)) in
-      let gw = same-map (guarded_writes_by_rows rows t) (guarded_writes_within words own) 0 locks (λ i l m. words-same t (GuardedWrites i) c p (omega arith)) in
-      let reads = map (guarded_reads_by_rows rows t) (range_with_len 0 locks) in
-      let writes = map (guarded_writes_by_rows rows t) (range_with_len 0 locks) in
+      let gr = same-map (guarded_by_rows rows t false) (guarded_reads_within words own) 0 locks (λ i l m. words-same t (GuardedReads i) c p (omega arith)) in
+      let gw = same-map (guarded_by_rows rows t true) (guarded_writes_within words own) 0 locks (λ i l m. words-same t (GuardedWrites i) c p (omega arith)) in
+      let reads = map (guarded_by_rows rows t false) (range_with_len 0 locks) in
+      let writes = map (guarded_by_rows rows t true) (range_with_len 0 locks) in
       ap (λ (x : List Interval). effects x (words_by_rows rows t Writes) reads writes) r
       ∙ (ap (λ (x : List Interval). effects (words_within words own Reads) x reads writes) w
       ∙ (ap (λ (x : List (List Interval)). effects (words_within words own Reads) (words_within words own Writes) x writes) gr

@@ -1,6 +1,6 @@
 -- The claims of a text in rows. There is one row for each phase, core and usage, with the intervals that are claimed so. Each
 -- claim goes into its row, and the words of a task are read from its rows.
-use Rattle.std.specs.Prelude.{◌≡◌, ℕ, ◌+◌, ◌*◌, ◌<◌, ◌≤◌, Bool, true, ◌&&◌, nat_lt, List, [], ◌++◌, length, map, slice_set, slice_index_or, Option, option_map, find, filter, filter_map, if◌then◌else◌}
+use Rattle.std.specs.Prelude.{◌≡◌, ℕ, ◌+◌, ◌*◌, ◌<◌, ◌≤◌, Bool, true, false, ◌&&◌, nat_lt, List, [], ◌++◌, length, map, slice_set, slice_index_or, Option, option_map, find, filter, filter_map, if◌then◌else◌}
 use Rattle.std.specs.List.{All, range_with_len}
 use Rattle.std.specs.Option.{option_to_list}
 use Rattle.region_table.specs.declared.interval.Interval.{Interval}
@@ -13,6 +13,7 @@ use Rattle.rv_assembler.specs.declared.draft.Usage.TheVariants.{Reads, Writes, G
 use Rattle.rv_assembler.specs.declared.draft.Claim.{Claim}
 use Rattle.rv_assembler.specs.Union.{united}
 use Rattle.rv_assembler.specs.Program.{is_claim_of, is_task}
+use Rattle.rv_assembler.specs.Named.{guarded_usage}
 use Rattle.rv_assembler.specs.Finishing.{interval_within}
 
 -- the number of a usage among those of a task; with the most locks there are 66
@@ -67,11 +68,9 @@ AreRowsWithin words rows = All (λ (row : List Interval). All (IsSomeWithin word
 abbrev pub words_by_rows : List (List Interval) → Start → Usage → List Interval
 words_by_rows rows t usage = united (intervals_at rows (claim_row t.phase t.core usage))
 
-abbrev pub guarded_reads_by_rows : List (List Interval) → Start → ℕ → List Interval
-guarded_reads_by_rows rows t lock = words_by_rows rows t (GuardedReads lock)
-
-abbrev pub guarded_writes_by_rows : List (List Interval) → Start → ℕ → List Interval
-guarded_writes_by_rows rows t lock = words_by_rows rows t (GuardedWrites lock)
+-- the words that a task claims under a lock, to read or to write
+abbrev pub guarded_by_rows : List (List Interval) → Start → Bool → ℕ → List Interval
+guarded_by_rows rows t writes lock = words_by_rows rows t (guarded_usage writes lock)
 
 -- the effects of a task, from the rows
 abbrev pub effects_by_rows : ℕ → List (List Interval) → Start → Effects
@@ -79,8 +78,8 @@ effects_by_rows locks rows t =
     record {
       reads = words_by_rows rows t Reads;
       writes = words_by_rows rows t Writes;
-      guarded_reads = map (guarded_reads_by_rows rows t) (range_with_len 0 locks);
-      guarded_writes = map (guarded_writes_by_rows rows t) (range_with_len 0 locks);
+      guarded_reads = map (guarded_by_rows rows t false) (range_with_len 0 locks);
+      guarded_writes = map (guarded_by_rows rows t true) (range_with_len 0 locks);
     }
 
 abbrev pub task_by_rows : ℕ → List (List Interval) → Start → TaskDecl

@@ -6,7 +6,7 @@ ghost use Rattle.rv_assembler.specs.Operand.{bytes_of};
 ghost use Rattle.rv_assembler.specs.Number.{wrapped};
 ghost use Rattle.rv_assembler.specs.Gathering.{more};
 ghost use Rattle.rv_assembler.specs.Adding.{no_draft, with_tasks, draft_with, draft_after};
-ghost use Rattle.rv_assembler.specs.Named.{region_span, lock_number, usage_of};
+ghost use Rattle.rv_assembler.specs.Named.{region_span, lock_number, plain_usage, guarded_usage, usage_of};
 ghost use Rattle.rv_assembler.specs.Drafting.{wrapped_entry, members, extent_start, past_word, step_of, claimed, claims_for, values_for};
 
 use crate::emission::{Emission, label_address};
@@ -131,22 +131,34 @@ fn entry<'a>(text: &'a [u8], names: &Names<'a>, target: Token) -> u32
     }
 }
 
+impl Usage {
+    /// How a task uses words under no lock.
+    fn plain(writes: bool) -> Usage
+        ensures { result ≡ plain_usage writes }
+    {
+        if writes { Usage::Writes } else { Usage::Reads }
+    }
+
+    /// How a task uses words while it holds a lock.
+    pub(crate) fn guarded(writes: bool, lock: u32) -> Usage
+        ensures { result ≡ guarded_usage writes lock }
+    {
+        if writes {
+            Usage::GuardedWrites(lock)
+        } else {
+            Usage::GuardedReads(lock)
+        }
+    }
+}
+
 /// How a task uses the words of an effect; None if the lock isn't declared.
 fn usage_in<'a>(text: &'a [u8], names: &Names<'a>, effect: Effect) -> Option<Usage>
     ensures { result ≡ usage_of text.now (name_lookup names.now) effect }
 {
     match effect.lock {
-        None => Some(if effect.writes {
-            Usage::Writes
-        } else {
-            Usage::Reads
-        }),
+        None => Some(Usage::plain(effect.writes)),
         Some(lock) => match lock_named(text, names, lock) {
-            Some(number) => Some(if effect.writes {
-                Usage::GuardedWrites(number)
-            } else {
-                Usage::GuardedReads(number)
-            }),
+            Some(number) => Some(Usage::guarded(effect.writes, number)),
             None => None,
         },
     }

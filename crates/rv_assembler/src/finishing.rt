@@ -5,7 +5,7 @@ ghost use Rattle.std.specs.List.{range_with_len};
 ghost use Rattle.region_table.specs.Program.{IsProgram};
 ghost use Rattle.rv_assembler.specs.Program.{is_task};
 ghost use Rattle.rv_assembler.specs.Finishing.{phase_within, with_first_values, finished_program};
-ghost use Rattle.rv_assembler.specs.ClaimRows.{AreRowsWithin, words_by_rows, guarded_reads_by_rows, guarded_writes_by_rows, effects_by_rows, task_by_rows, phase_by_rows};
+ghost use Rattle.rv_assembler.specs.ClaimRows.{AreRowsWithin, words_by_rows, guarded_by_rows, effects_by_rows, task_by_rows, phase_by_rows};
 
 use crate::claim_rows::{claim_rows, intervals_of};
 use crate::draft::{Claim, Draft, FirstValue, Start, Usage};
@@ -50,40 +50,22 @@ fn words_of(
     words_in(alloc, words, intervals_of(rows, task, usage))
 }
 
-/// By the number of a lock, the words that a task claims under it, to read.
-fn guarded_reads(
+/// By the number of a lock, the words that a task claims under it, to read or to write.
+fn guarded_words(
     alloc: Global,
     words: u32,
     locks: u32,
     rows: &[Sequence<Interval>],
     task: Start,
+    writes: bool,
 ) -> Result<Sequence<WordSet>, Memory>
     requires words { words ≤ 65536 }
     requires rows { AreRowsWithin words rows.now }
-    ensures { IfOk result (λ sets. sets ≡ map (guarded_reads_by_rows rows.now task) (range_with_len 0 locks)) }
+    ensures { IfOk result (λ sets. sets ≡ map (guarded_by_rows rows.now task writes) (range_with_len 0 locks)) }
 {
     let mut sets = Sequence::new(alloc);
     for lock in 0..locks {
-        sets.push(words_of(alloc, words, rows, task, Usage::GuardedReads(lock))?)?;
-    }
-    Ok(sets)
-}
-
-/// The same, to write.
-fn guarded_writes(
-    alloc: Global,
-    words: u32,
-    locks: u32,
-    rows: &[Sequence<Interval>],
-    task: Start,
-) -> Result<Sequence<WordSet>, Memory>
-    requires words { words ≤ 65536 }
-    requires rows { AreRowsWithin words rows.now }
-    ensures { IfOk result (λ sets. sets ≡ map (guarded_writes_by_rows rows.now task) (range_with_len 0 locks)) }
-{
-    let mut sets = Sequence::new(alloc);
-    for lock in 0..locks {
-        sets.push(words_of(alloc, words, rows, task, Usage::GuardedWrites(lock))?)?;
+        sets.push(words_of(alloc, words, rows, task, Usage::guarded(writes, lock))?)?;
     }
     Ok(sets)
 }
@@ -103,8 +85,8 @@ fn effects_in(
     Ok(Effects {
         reads: words_of(alloc, words, rows, task, Usage::Reads)?,
         writes: words_of(alloc, words, rows, task, Usage::Writes)?,
-        guarded_reads: guarded_reads(alloc, words, locks, rows, task)?,
-        guarded_writes: guarded_writes(alloc, words, locks, rows, task)?,
+        guarded_reads: guarded_words(alloc, words, locks, rows, task, false)?,
+        guarded_writes: guarded_words(alloc, words, locks, rows, task, true)?,
     })
 }
 

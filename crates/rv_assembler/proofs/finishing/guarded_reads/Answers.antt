@@ -1,9 +1,0 @@
-use Rattle.std.proofs.Common.{◌+◌, ◌-◌, arith}
-use Rattle.rv_assembler.specs.ClaimRows.{guarded_reads_by_rows}
-use Rattle.rv_assembler.proofs.LoopLemmas.{map_step}
-use Rattle.rv_assembler.proofs.finishing.guarded_reads.Goals as goal
-
-pub loop-lock-preserved : goal.loop-lock-preserved
-loop-lock-preserved c =
-    rw (c.in_ok-push.ensures.ok, c.in_ok-words_of.ensures)
-    (map_step (guarded_reads_by_rows c.args.rows.now c.args.task) c.loop-lock.sets c.loop-lock.lock (c.args.locks - c.loop-lock.lock) (c.args.locks - (c.loop-lock.lock + 1)) _ (omega arith) c.loop-lock.invariant)
