@@ -43,16 +43,15 @@ chart-is m shape fuel range chain events columns opens none shapes fuels =
     ap (λ (f : Frame). chart_in f (drawn m range chain events)) (frame-of m shape fuel range (length events) columns shapes fuels)
     ∙ ap (λ (x : Made). chart_in (record { shape = m.state.setting.shape; fuel = m.state.setting.fuel; range = range; events = length events; columns = columns }) (drawn x range chain events)) first
 
-pub chart-of : (P : ProgramParts) (shape : Shape) (fuel : ℕ) (m : Made) (range : Range) (chain : List ℕ) (events : List Event) (columns : Columns) (frame : Frame) (d : Option Drawing) (chart : Chart)
-    → IsInitialMachine P shape fuel m → IsKept m.state m.made → frame ≡ record { shape = shape; fuel = fuel; range = range; events = length events; columns = columns } → d ≡ drawn m range chain events
-    → chart ≡ chart_in frame d → IsChartOf P shape fuel events range chain columns chart
-chart-of P shape fuel m range chain events columns frame d chart opens kept frames drawings charts =
+pub chart-of : (P : ProgramParts) (shape : Shape) (fuel : ℕ) (m : Made) (range : Range) (chain : List ℕ) (events : List Event) (columns : Columns) (frame : Frame) (chart : Chart)
+    → IsInitialMachine P shape fuel m → IsKept m.state m.made → frame ≡ record { shape = shape; fuel = fuel; range = range; events = length events; columns = columns }
+    → chart ≡ chart_in frame (drawn m frame.range chain events) → IsChartOf P shape fuel events range chain columns chart
+chart-of P shape fuel m range chain events columns frame chart opens kept frames charts =
     record {
       setting = m.state.setting;
       setting_is = setting-of P shape fuel m opens kept;
       is =
-          charts ∙ ap (λ (f : Frame). chart_in f d) frames
-          ∙ ap (λ (x : Option Drawing). chart_in (record { shape = shape; fuel = fuel; range = range; events = length events; columns = columns }) x) drawings
+          charts ∙ ap (λ (f : Frame). chart_in f (drawn m f.range chain events)) frames
           ∙ chart-is m shape fuel range chain events columns opens.state opens.made opens.shape_is opens.fuel_is;
     }
 

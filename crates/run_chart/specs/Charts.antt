@@ -87,3 +87,12 @@ pub record IsFinishable (d : Drawing) : Type 0 where
   pub sent : AreNotedFor d.sent d.machine.state.mails
   pub made : d.machine.made ≤ 25173760
   pub lines : d.line ≤ 268443648
+
+-- this drawing is that of a range of the events, and can be finished; or an event before the range may not come in its turn
+pub record IsDrawing (m : Made) (range : Range) (chain : List ℕ) (events : List Event) (d : Drawing) : Type 0 where
+  pub is : drawn m range chain events ≡ Some d
+  pub fits : IsFinishable d
+
+abbrev pub IsRangeDrawn : Made → Range → List ℕ → List Event → Drawing → Bool → Type 0
+IsRangeDrawn m range chain events d true = IsDrawing m range chain events d
+IsRangeDrawn m range chain events d false = drawn m range chain events ≡ None

@@ -78,6 +78,10 @@ abbrev pub led_to : Made → List Event → Option Made
 led_to m [] = Some m
 led_to m (e ∷ es) = if enabled m.state e then led_to (moved m e) es else None
 
+-- nothing is drawn yet of what comes on a machine
+abbrev pub empty_drawing : Made → Drawing
+empty_drawing m = record { machine = m; sent = []; event = 0; line = 0; rows = [] }
+
 -- no event has a row yet, and `event` events have come; no line is known for the mails in flight
 abbrev pub begun : Made → ℕ → Drawing
 begun m event = record { machine = m; sent = unknown_mails m.state.mails; event = event; line = 0; rows = [] }

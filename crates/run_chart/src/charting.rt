@@ -1,9 +1,8 @@
-ghost use Rattle.std.specs.Prelude.{◌≡◌, ◌+◌, ◌*◌, ◌<◌, ◌≤◌, [], true, length, take, drop, None, Some, IfOk, IfSome};
+ghost use Rattle.std.specs.Prelude.{◌≡◌, ◌+◌, ◌≤◌, [], length, take, drop, IfOk, OnOk};
 ghost use Rattle.dn_machine.specs.Sizes.{FitsMachine};
 ghost use Rattle.machine_rules.specs.Sound.{IsMachine};
-ghost use Rattle.run_chart.specs.Charts.{chart_by, drawn, leaving_in, reaches_end, waiting_at, waiting_in, IsChartOf, IsFinishable};
-ghost use Rattle.run_chart.specs.Drawing.{begun};
-ghost use Rattle.run_chart.specs.Mails.{AreNotedFor};
+ghost use Rattle.run_chart.specs.Charts.{chart_by, chart_in, drawn, leaving_in, reaches_end, waiting_at, waiting_in, IsChartOf, IsRangeDrawn, IsFinishable};
+ghost use Rattle.run_chart.specs.Drawing.{begun, empty_drawing};
 
 use crate::drawing::{Drawing, Range, pass};
 use crate::finishing::{Columns, leaving_mails, shown_banks, waiting_tasks};
@@ -14,20 +13,7 @@ use effect_checker::Checked;
 use message_chart::{Chart, ChartRow, LeavingMail, WaitingTask};
 use message_net::Event;
 use std::alloc::Global;
-
-/// A drawing without rows, after `event` events.
-fn begun(alloc: Global, machine: Machine, event: u32) -> Result<Drawing, Memory>
-    ensures { IfOk result (λ drawing. drawing ≡ begun machine event) }
-{
-    let sent = unknown_mails(alloc, machine.pool())?;
-    Ok(Drawing {
-        machine,
-        sent,
-        event,
-        line: 0,
-        rows: Sequence::new(alloc),
-    })
-}
+use std::mem;
 
 /// The first `wanted` events, or all if there are no more.
 fn first_of(events: &[Event], wanted: u32) -> (&[Event], &[Event])
@@ -41,32 +27,6 @@ fn first_of(events: &[Event], wanted: u32) -> (&[Event], &[Event])
     } else {
         events.split_at(events.len())
     }
-}
-
-/// The drawing of a range of events. Those before it are only made, and those after it aren't looked at. None if one before it
-/// may not come in its turn.
-fn drawn(
-    alloc: Global,
-    machine: Machine,
-    events: &[Event],
-    range: Range,
-    chain: &[u32],
-) -> Result<Option<Drawing>, Memory>
-    requires made { machine.made ≡ 0 }
-    requires few { length events.now ≤ 25169664 }
-    requires most { range.most ≤ 4096 }
-    ensures drawn { IfOk result (λ d. d ≡ drawn machine range chain.now events.now) }
-    ensures fits { IfOk result (λ d. IfSome d IsFinishable) }
-{
-    let mut machine = machine;
-    let (before, rest) = first_of(events, range.first);
-    if !pass(&mut machine, before)? {
-        return Ok(None);
-    }
-    let mut drawing = begun(alloc, machine, before.len() as u32)?;
-    let (wanted, _) = first_of(rest, range.most);
-    drawing.add_rows(alloc, wanted, chain)?;
-    Ok(Some(drawing))
 }
 
 /// Whether no event of `events` follows the range.
@@ -153,30 +113,105 @@ fn empty_chart(alloc: Global, frame: Frame) -> Result<Chart, Memory>
     )
 }
 
-/// The chart that a drawing is.
-fn finished(alloc: Global, frame: Frame, drawing: Drawing) -> Result<Chart, Memory>
-    requires { IsFinishable drawing }
-    ensures { IfOk result (λ chart. chart ≡ chart_by frame drawing.rows (leaving_in drawing) (waiting_in frame.range frame.events drawing) drawing.line) }
-{
-    // for the proof alone: the machine is well formed, and few mails are in flight
-    a_machine_is_kept(&drawing.machine);
-    let leaving = leaving_mails(
-        alloc,
-        drawing.sent.as_slice(),
-        drawing.machine.pool(),
-        drawing.line,
-    )?;
-    let behind = drawing.line + leaving.len() as u32;
-    let is_end = reaches_end(frame.range, frame.events);
-    let waiting = waiting_at(alloc, is_end, &drawing.machine, behind)?;
-    let Drawing {
-        machine: _,
-        sent: _,
-        event: _,
-        line,
-        rows,
-    } = drawing;
-    chart_with(alloc, frame, rows, leaving, waiting, line)
+impl Drawing {
+    /// A drawing of no events, on this machine. Takes no memory.
+    fn new(alloc: Global, machine: Machine) -> Drawing
+        ensures { result ≡ empty_drawing machine }
+    {
+        Drawing {
+            machine,
+            sent: Sequence::new(alloc),
+            event: 0,
+            line: 0,
+            rows: Sequence::new(alloc),
+        }
+    }
+
+    /// Begins to draw after `event` events, which had no rows.
+    ///
+    /// # Errors
+    /// `Memory` where there is no room.
+    fn begin(&mut self, alloc: Global, event: u32) -> Result<(), Memory>
+        requires line { self.old.line ≡ 0 }
+        requires rows { self.old.rows ≡ [] }
+        ensures { OnOk result (self.new ≡ begun self.old.machine event) }
+    {
+        self.sent = unknown_mails(alloc, self.machine.pool())?;
+        self.event = event;
+        Ok(())
+    }
+
+    /// Draws a range of events. Those before it are only made, and those after it aren't looked at. Returns whether those before
+    /// it came, each in its turn.
+    ///
+    /// # Errors
+    /// `Memory` where there is no room.
+    fn draw(
+        &mut self,
+        alloc: Global,
+        events: &[Event],
+        range: Range,
+        chain: &[u32],
+    ) -> Result<bool, Memory>
+        requires made { self.old.machine.made ≡ 0 }
+        requires line { self.old.line ≡ 0 }
+        requires rows { self.old.rows ≡ [] }
+        requires few { length events.now ≤ 25169664 }
+        requires most { range.most ≤ 4096 }
+        ensures { IfOk result (IsRangeDrawn self.old.machine range chain.now events.now self.new) }
+    {
+        let (before, rest) = first_of(events, range.first);
+        if !pass(&mut self.machine, before)? {
+            return Ok(false);
+        }
+        self.begin(alloc, before.len() as u32)?;
+        let (wanted, _) = first_of(rest, range.most);
+        self.add_rows(alloc, wanted, chain)?;
+        Ok(true)
+    }
+
+    /// The chart that a drawing is. Its rows go into the chart.
+    ///
+    /// # Errors
+    /// `Memory` where there is no room.
+    fn finish(&mut self, alloc: Global, frame: Frame) -> Result<Chart, Memory>
+        requires { IsFinishable self.old }
+        ensures { IfOk result (λ chart. chart ≡ chart_by frame self.old.rows (leaving_in self.old) (waiting_in frame.range frame.events self.old) self.old.line) }
+    {
+        // for the proof alone: the machine is well formed, and few mails are in flight
+        a_machine_is_kept(&self.machine);
+        let leaving = leaving_mails(alloc, self.sent.as_slice(), self.machine.pool(), self.line)?;
+        let behind = self.line + leaving.len() as u32;
+        let is_end = reaches_end(frame.range, frame.events);
+        let waiting = waiting_at(alloc, is_end, &self.machine, behind)?;
+        let rows = mem::replace(&mut self.rows, Sequence::new(alloc));
+        chart_with(alloc, frame, rows, leaving, waiting, self.line)
+    }
+
+    /// The chart of a range of events on the drawing's machine.
+    ///
+    /// # Errors
+    /// `Memory` where there is no room.
+    fn chart(
+        &mut self,
+        alloc: Global,
+        frame: Frame,
+        events: &[Event],
+        chain: &[u32],
+    ) -> Result<Chart, Memory>
+        requires made { self.old.machine.made ≡ 0 }
+        requires line { self.old.line ≡ 0 }
+        requires rows { self.old.rows ≡ [] }
+        requires few { length events.now ≤ 25169664 }
+        requires most { frame.range.most ≤ 4096 }
+        ensures { IfOk result (λ chart. chart ≡ chart_in frame (drawn self.old.machine frame.range chain.now events.now)) }
+    {
+        if self.draw(alloc, events, frame.range, chain)? {
+            self.finish(alloc, frame)
+        } else {
+            empty_chart(alloc, frame)
+        }
+    }
 }
 
 /// The message chart of a range of a run's events, with marks for the events whose numbers are in the chain.
@@ -221,8 +256,6 @@ pub fn chart(
         events: events.len() as u32,
         columns,
     };
-    match drawn(alloc, machine, events, range, chain)? {
-        Some(drawing) => finished(alloc, frame, drawing),
-        None => empty_chart(alloc, frame),
-    }
+    let mut drawing = Drawing::new(alloc, machine);
+    drawing.chart(alloc, frame, events, chain)
 }
