@@ -1,11 +1,14 @@
 -- A command whose options have one value each: its options, what is wrong with command words, and the values that they give.
 use Rattle.std.specs.Prelude.{ℕ, pos, true, List, [], ◌∷◌, Option, Some, None, option_and_then}
+use Rattle.std.specs.Borrow.{Bor}
 use Rattle.clap.specs.Walk.{Row, Rule, Text, one_of}
-use Rattle.clap.specs.Simple.{App, new_rule, matches_of, on_top}
+use Rattle.clap.specs.Simple.{App, new_rule, matches_of, on_top, with_rule}
 use Rattle.clap.specs.Kinds.{Kinds}
 use Rattle.clap.specs.Faults.{fault_of}
 use Rattle.clap.specs.declared.builder.action.ArgAction.TheVariants.{Set}
 use Rattle.clap.specs.declared.builder.value_parser.ValueParser.TheVariants as parser
+use Rattle.command_words.specs.declared.words.OptionValue.{OptionValue}
+use Rattle.command_words.specs.declared.words.OptionValue.TheVariants as value
 use Rattle.command_words.specs.Numbers.{if_within, number_in_text}
 
 -- an option with one value, and its default
@@ -16,6 +19,21 @@ text_rule name default =
 -- such an option whose value is a number of 32 bits
 abbrev pub number_rule : Text → Text → Rule
 number_rule name default = record (text_rule name default) { parser = Some (parser.Signed (pos 0) (pos 4294967295)) }
+
+-- an option whose value is a number of 32 bits, without a default
+abbrev pub open_number_rule : Text → Rule
+open_number_rule name = record (new_rule name) { long = Some name; action = Some Set; parser = Some (parser.Signed (pos 0) (pos 4294967295)) }
+
+-- an option with one value of a kind
+abbrev pub rule_with : OptionValue → Text → Rule
+rule_with (value.Text default) name = text_rule name default.now
+rule_with (value.Number default) name = number_rule name default.now
+rule_with value.OpenNumber name = open_number_rule name
+
+-- a command with these options too, in their order
+abbrev pub with_rules : App → List (Bor Text × OptionValue) → App
+with_rules app [] = app
+with_rules app (option ∷ options) = with_rules (with_rule app (rule_with option.1 option.0.now)) options
 
 -- the command without options; its own name isn't among its words, and it has no flags for help and version
 abbrev pub bare : App → App

@@ -2,26 +2,29 @@ ghost use Rattle.std.specs.Prelude.{◌≡◌, IfOk};
 ghost use Rattle.clap.specs.Words.{app_of};
 ghost use Rattle.command_words.specs.Command.{command};
 
-use crate::words::{bare_command, number_option, text_option, with_option};
+use crate::words::{OptionValue, bare_command, with_options};
 use clap::Command;
 use std::alloc::{AllocError, Global};
+
+/// The options of the command, with their defaults.
+const OPTIONS: [(&str, OptionValue<'_>); 11] = [
+    ("mode", OptionValue::Text("run")),
+    ("seed", OptionValue::Number("1")),
+    ("workers", OptionValue::Number("1")),
+    ("banks", OptionValue::Number("4")),
+    ("sets", OptionValue::Number("64")),
+    ("ways", OptionValue::Number("4")),
+    ("fuel", OptionValue::Number("32768")),
+    ("size", OptionValue::Number("4")),
+    ("tick-core", OptionValue::Number("1")),
+    ("tick-bank", OptionValue::Number("10")),
+    ("tick-mail", OptionValue::Number("5")),
+];
 
 /// The command with its eleven options.
 #[tactic(auto, unfolding(crate::specs::Command::command))]
 pub(crate) fn denovo<'a>(alloc: Global) -> Result<Command<'a>, AllocError>
     ensures { IfOk result (λ made. app_of made ≡ command) }
 {
-    let made = bare_command(alloc, "denovo");
-    let made = with_option(made, text_option(alloc, "mode", "run"))?;
-    let made = with_option(made, number_option(alloc, "seed", "1"))?;
-    let made = with_option(made, number_option(alloc, "workers", "1"))?;
-    let made = with_option(made, number_option(alloc, "banks", "4"))?;
-    let made = with_option(made, number_option(alloc, "sets", "64"))?;
-    let made = with_option(made, number_option(alloc, "ways", "4"))?;
-    let made = with_option(made, number_option(alloc, "fuel", "32768"))?;
-    let made = with_option(made, number_option(alloc, "size", "4"))?;
-    let made = with_option(made, number_option(alloc, "tick-core", "1"))?;
-    let made = with_option(made, number_option(alloc, "tick-bank", "10"))?;
-    let made = with_option(made, number_option(alloc, "tick-mail", "5"))?;
-    Ok(made)
+    with_options(alloc, bare_command(alloc, "denovo"), &OPTIONS)
 }

@@ -12,5 +12,6 @@ pub use given::{NO_WORDS, given_words};
 pub use options::{Mode, Options};
 pub use reading::read_words;
 pub use words::{
-    WordsFault, bare_command, matches_by, number, number_option, text_option, with_option,
+    OptionValue, WordsFault, bare_command, matches_by, number, number_option, text_option,
+    with_option, with_options,
 };

@@ -2,7 +2,7 @@ ghost use Rattle.std.specs.Prelude.{◌≡◌, ◌≢◌, IfOk, IfErr, [], Some,
 ghost use Rattle.std.specs.Int.{IsInRange};
 ghost use Rattle.clap.specs.Words.{app_of, new_app, with_rule, rule_of, rows_of, found_of, one_of, is_simple_and_free};
 ghost use Rattle.command_words.specs.Numbers.{number_in_text};
-ghost use Rattle.command_words.specs.Words.{bare, text_rule, number_rule, number_in, faults_in, values_in};
+ghost use Rattle.command_words.specs.Words.{bare, text_rule, number_rule, open_number_rule, rule_with, with_rules, number_in, faults_in, values_in};
 ghost use Rattle.command_words.specs.declared.words.WordsFault.TheVariants.{Usage};
 
 use clap::error::ErrorKind;
@@ -60,6 +60,40 @@ pub fn bare_command<'a>(alloc: Global, name: &'a str) -> Command<'a>
         .disable_version_flag(true)
 }
 
+/// The option `--name` whose value is a number of 32 bits, without a default.
+fn open_number_option<'a>(alloc: Global, name: &'a str) -> Arg<'a>
+    ensures rule { rule_of result ≡ open_number_rule name.now }
+    ensures local { result.global ≡ false }
+{
+    Arg::new(alloc, name)
+        .long(name)
+        .action(ArgAction::Set)
+        .value_parser(clap::value_parser!(u32))
+}
+
+/// What the value of an option is, and its default.
+#[derive(Clone, Copy)]
+pub enum OptionValue<'a> {
+    /// A text with this default.
+    Text(&'a str),
+    /// A number of 32 bits with this default.
+    Number(&'a str),
+    /// A number of 32 bits without a default.
+    OpenNumber,
+}
+
+/// The option `--name` with one value of this kind.
+fn option_of<'a>(alloc: Global, name: &'a str, value: OptionValue<'a>) -> Arg<'a>
+    ensures rule { rule_of result ≡ rule_with value.entry name.now }
+    ensures local { result.global ≡ false }
+{
+    match value {
+        OptionValue::Text(default) => text_option(alloc, name, default),
+        OptionValue::Number(default) => number_option(alloc, name, default),
+        OptionValue::OpenNumber => open_number_option(alloc, name),
+    }
+}
+
 /// The command with one more option.
 ///
 /// # Errors
@@ -69,6 +103,24 @@ pub fn with_option<'a>(command: Command<'a>, option: Arg<'a>) -> Result<Command<
     ensures { IfOk result (λ made. app_of made ≡ with_rule (app_of command.entry) (rule_of option.entry)) }
 {
     command.arg(option)
+}
+
+/// The command with these options too, in their order, each with its name.
+///
+/// # Errors
+/// An `AllocError` if there is no room for an option.
+pub fn with_options<'a>(
+    alloc: Global,
+    command: Command<'a>,
+    options: &[(&'a str, OptionValue<'a>)],
+) -> Result<Command<'a>, AllocError>
+    ensures { IfOk result (λ made. app_of made ≡ with_rules (app_of command.entry) options.now) }
+{
+    let mut made = command;
+    for option in options {
+        made = with_option(made, option_of(alloc, option.0, option.1))?;
+    }
+    Ok(made)
 }
 
 /// The values that the words give to the command's options.
