@@ -4,10 +4,16 @@ use Rattle.registration_protocol.specs.Node.{Setting}
 use Rattle.machine_rules.specs.State.{State}
 use Rattle.bank_hall.specs.Halls.{HallView, BankEntry, PortEntry, bank_state, bank_answer, bank_next, port_inbox, port_answer, port_next, keeper_state, keeper_answer, keeper_next}
 use Rattle.bank_hall.specs.Closing.{IsClosedRow, IsToldPass}
+use Rattle.message_net.specs.Pool.{AreDistinct}
+use Rattle.grant_log.specs.declared.log.Stamped.{Stamped}
+use Rattle.round_rules.specs.Steps.{Done}
 use Rattle.round_rules.specs.Rounds.{mail_in}
+use Rattle.host_workers.specs.declared.inboxes.Objects.{Objects as Left}
+use Rattle.host_workers.specs.declared.roster.Parted.{Parted}
 use Rattle.host_workers.specs.declared.working.Job.{Job}
 use Rattle.host_workers.specs.declared.finishing.Finished.{Finished}
 use Rattle.host_workers.specs.Crews.{IsCrew}
+use Rattle.host_workers.specs.Ends.{AreEndsOf}
 use Rattle.host_workers.specs.Work.{MayAct, KeepsNumber}
 use Rattle.host_workers.specs.Pass.{HasWorkedOn}
 use Rattle.host_workers.specs.Inboxes.{inboxes_of, all_posted, AreObjectsOf}
@@ -65,6 +71,13 @@ left_in C f =
       mails = map mail_in (all_posted (inboxes_of f.objects.inboxes));
       numbers = f.parted.next.items ++ f.objects.next.items;
     }
+
+-- The merged notes of a round tell some events with the ends that the workers saw, and a pool has room for the mails in the inboxes
+pub record MayBeTold (parted : Parted) (left : Left) (merged : List Stamped) : Type 0 where
+  pub dones : List Done
+  pub ends : AreEndsOf merged (map (λ e. e.items) parted.ends.items) dones
+  pub distinct : AreDistinct (map mail_in (all_posted (inboxes_of left.inboxes)))
+  pub few : length (all_posted (inboxes_of left.inboxes)) < 4294967295
 
 -- What is left of a round before it is put together: the machine stood for S, the round was opened on it, all workers have made
 -- their passes, and the hall was closed

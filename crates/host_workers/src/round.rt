@@ -1,19 +1,24 @@
 //! One round of host workers.
-ghost use Rattle.std.specs.Prelude.{◌≡◌, ◌+◌, ◌++◌, ◌≤◌, ◌<◌, ℕ, length, map, IfOk};
+ghost use Rattle.std.specs.Prelude.{◌≡◌, ◌+◌, ◌++◌, ◌≤◌, ◌<◌, ℕ, List, length, map, filter_map, IfOk};
 ghost use Rattle.message_net.specs.Pool.{AreDistinct};
-ghost use Rattle.round_rules.specs.Rounds.{mail_in};
+ghost use Rattle.grant_log.specs.Log.{AreLogs, IsMerge};
+ghost use Rattle.grant_log.specs.declared.log.Stamped.{Stamped as OneStamped};
+ghost use Rattle.round_rules.specs.Rounds.{end_of_done, mail_in};
+ghost use Rattle.round_rules.specs.Steps.{Done};
 ghost use Rattle.host_workers.specs.Inboxes.{inboxes_of, all_posted};
 ghost use Rattle.registration_protocol.specs.Setting.{setting};
 ghost use Rattle.machine_rules.specs.State.{State};
 ghost use Rattle.dn_machine.specs.Kept.{IsKept, IsLeftByRun};
 ghost use Rattle.host_workers.specs.Opening.{StandsFor};
-ghost use Rattle.host_workers.specs.Finishing.{IsRoundLeft};
+ghost use Rattle.host_workers.specs.Ends.{AreEndsOf};
+ghost use Rattle.host_workers.specs.Finishing.{IsRoundLeft, MayBeTold};
 ghost use Rattle.host_workers.specs.MadeRounds.{fixed_setting, made_from_parts, AreFixedPartsOf, IsMadeRound};
 
 use crate::ends::ends_in;
 use crate::finishing::{Finished, finish};
 use crate::inboxes::Objects;
 use crate::opening::{Moving, Opened, open};
+use crate::roster::Parted;
 use crate::working::work_all;
 use bank_hall::{BankActor, KeeperActor, Port};
 use dn_base::{Gate, Memory, Shape};
@@ -143,6 +148,40 @@ fn moving_of(
     })
 }
 
+/// What the notes of a round tell, and what it leaves of what it changes in a machine.
+#[derive(Drop)]
+struct Told {
+    merged: Vec<Stamped>,
+    ends: Vec<TaskEnd>,
+    moving: Moving,
+}
+
+/// Merges the notes of a round, brings the ends of the tasks into their order, and gathers what the round changed in a machine.
+///
+/// # Errors
+/// `Memory` where there is no room.
+fn told_of(alloc: Global, parted: Parted, objects: Objects) -> Result<Told, Memory>
+    requires logs { AreLogs (map (λ l. l.items) parted.logs.items) }
+    requires told { (merged : List OneStamped) → IsMerge (map (λ l. l.items) parted.logs.items) merged → MayBeTold parted objects merged }
+    ensures merge { IfOk result (λ told. IsMerge (map (λ l. l.items) parted.logs.items) told.merged.items) }
+    ensures ends { IfOk result (λ told. (dones : List Done) → AreEndsOf told.merged.items (map (λ e. e.items) parted.ends.items) dones
+        → told.ends.items ≡ filter_map end_of_done dones) }
+    ensures nodes { IfOk result (λ told. told.moving.nodes.items ≡ parted.nodes.items) }
+    ensures banks { IfOk result (λ told. told.moving.banks.items ≡ objects.banks.items) }
+    ensures keeper { IfOk result (λ told. told.moving.keeper ≡ objects.keeper) }
+    ensures mails { IfOk result (λ told. told.moving.pool.mails ≡ map mail_in (all_posted (inboxes_of objects.inboxes))) }
+    ensures numbers { IfOk result (λ told. told.moving.next.items ≡ parted.next.items ++ objects.next.items) }
+{
+    let merged = merge(alloc, parted.logs)?;
+    let ends = ends_in(alloc, merged.as_slice(), parted.ends.as_slice())?;
+    let moving = moving_of(alloc, parted.nodes, parted.next, objects)?;
+    Ok(Told {
+        merged,
+        ends,
+        moving,
+    })
+}
+
 /// Puts a round together from what is left of it: the notes are merged, and the machine is joined again.
 ///
 /// # Errors
@@ -158,9 +197,11 @@ fn put_together(alloc: Global, fixed: FixedParts, finished: Finished) -> Result<
         ports,
         keeper,
     } = finished;
-    let merged = merge(alloc, parted.logs)?;
-    let ends = ends_in(alloc, merged.as_slice(), parted.ends.as_slice())?;
-    let moving = moving_of(alloc, parted.nodes, parted.next, objects)?;
+    let Told {
+        merged,
+        ends,
+        moving,
+    } = told_of(alloc, parted, objects)?;
     Ok(Round {
         machine: fixed.machine(moving, merged.len() as u64),
         merged,

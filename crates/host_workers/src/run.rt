@@ -11,6 +11,7 @@ use crate::noting::{note_ends, note_events, note_last};
 use crate::round::{Round, run_round};
 use dn_base::{Gate, Memory};
 use dn_machine::{Log, Machine, RunRecord, a_machine_is_kept};
+use rv_core::Ending;
 use std::alloc::{AllocError, Global};
 use std::sync::Wait;
 use std::thread::Threads;
@@ -66,19 +67,31 @@ fn go_on<R: Threads + Wait + Sync, G: Gate + Sync>(
     Ok(left)
 }
 
+/// Notes how the tasks stand at the end of the run of which a log tells, by the machine after it. Gives the ending of the run.
+///
+/// # Errors
+/// `Memory` where there is no room for the ending.
+fn ended(alloc: Global, machine: &Machine, log: &mut Log) -> Result<Ending, Memory>
+    requires far { IsRunSoFar machine.now.state.setting machine.now log.old }
+    requires over { IsOver machine.now.state }
+    ensures { IfOk result (λ ending. IsCoherentRun (initial_state machine.now.state.setting) (record { events = log.new.events; grants = log.new.grants; counts = log.new.counts; ending = ending })) }
+{
+    // for the proof alone: the machine has at most 16 cores and is sound, which the ending of the run needs
+    a_machine_is_kept(machine);
+    note_last(log, machine);
+    machine.ending(alloc, log)
+}
+
 /// The record of the run of which a log tells, by the machine after it.
 ///
 /// # Errors
 /// `Memory` where there is no room for the record.
-fn recorded(alloc: Global, machine: Machine, mut log: Log) -> Result<RunRecord, Memory>
-    requires far { IsRunSoFar machine.state.setting machine log }
-    requires over { IsOver machine.state }
-    ensures { IfOk result (IsCoherentRun (initial_state machine.state.setting)) }
+fn recorded(alloc: Global, machine: &Machine, mut log: Log) -> Result<RunRecord, Memory>
+    requires far { IsRunSoFar machine.now.state.setting machine.now log }
+    requires over { IsOver machine.now.state }
+    ensures { IfOk result (IsCoherentRun (initial_state machine.now.state.setting)) }
 {
-    // for the proof alone: the machine has at most 16 cores and is sound, which the ending of the run needs
-    a_machine_is_kept(&machine);
-    note_last(&mut log, &machine);
-    let ending = machine.ending(alloc, &log)?;
+    let ending = ended(alloc, machine, &mut log)?;
     Ok(log.record(ending))
 }
 
@@ -119,5 +132,5 @@ pub fn run_workers<R: Threads + Wait + Sync, G: Gate + Sync>(
         current = go_on(rt, alloc, current, workers, next_seed, gate, &mut log)?;
         next_seed = seed_after(next_seed);
     }
-    recorded(alloc, current, log)
+    recorded(alloc, &current, log)
 }

@@ -1,4 +1,4 @@
-ghost use Rattle.std.specs.Prelude.{◌≡◌, map, All, IfOk, Ok};
+ghost use Rattle.std.specs.Prelude.{◌≡◌, ◌∷◌, ◌++◌, map, All, IfOk, OnOk, Ok};
 ghost use Rattle.registration_protocol.specs.Setting.{setting};
 ghost use Rattle.host_workers.specs.Crews.{IsCrew};
 ghost use Rattle.host_workers.specs.Pass.{HasWorkedOn};
@@ -66,6 +66,30 @@ pub(crate) fn work<R: Wait, G: Gate>(
     Ok(Job { pass, crew, draws })
 }
 
+/// Puts the job of a worker before the others.
+///
+/// # Errors
+/// `Memory` if the worker ran out of memory, or there is no room.
+fn put_first(jobs: &mut Vec<Job>, done: Result<Job, Memory>) -> Result<(), Memory>
+    ensures { OnOk result (map Ok jobs.new.items ≡ done ∷ map Ok jobs.old.items) }
+{
+    jobs.insert(0, done?)?;
+    Ok(())
+}
+
+/// Moves the jobs of all workers, in their order.
+///
+/// # Errors
+/// `Memory` if a worker ran out of memory, or there is no room.
+fn move_jobs(dones: &mut Vec<Result<Job, Memory>>, jobs: &mut Vec<Job>) -> Result<(), Memory>
+    ensures { OnOk result (map Ok jobs.new.items ≡ dones.old.items ++ map Ok jobs.old.items) }
+{
+    while let Some(done) = dones.pop() {
+        put_first(jobs, done)?;
+    }
+    Ok(())
+}
+
 /// The jobs of all workers after their work, if none ran out of memory.
 ///
 /// # Errors
@@ -74,9 +98,7 @@ fn all_done(alloc: Global, mut dones: Vec<Result<Job, Memory>>) -> Result<Vec<Jo
     ensures { IfOk result (λ jobs. dones.items ≡ map Ok jobs.items) }
 {
     let mut jobs = Vec::new(alloc);
-    while let Some(done) = dones.pop() {
-        jobs.insert(0, done?)?;
-    }
+    move_jobs(&mut dones, &mut jobs)?;
     Ok(jobs)
 }
 
