@@ -106,20 +106,19 @@ fn push_text(
 /// The data of a machine's page.
 fn text_of(
     alloc: Global,
-    machine: Machine,
+    machine: &mut Machine,
     events: &[Event],
     page: &Page<'_>,
-) -> Result<Vec<u8>, Memory>
-    requires initial { machine.state ≡ initial_state machine.state.setting }
-    requires made { machine.made ≡ 0 }
-    requires run { IsRun machine.state events.now }
+) -> Result<Sequence<u8>, Memory>
+    requires initial { machine.old.state ≡ initial_state machine.old.state.setting }
+    requires made { machine.old.made ≡ 0 }
+    requires run { IsRun machine.old.state events.now }
     requires few { length events.now ≤ 25169664 }
-    ensures { IfOk result (λ text. text.items ≡ page_text machine.state.setting events.now page.now) }
+    ensures { IfOk result (λ text. text ≡ page_text machine.old.state.setting events.now page.now) }
 {
-    let mut machine = machine;
     let mut out = Vec::new(alloc);
-    push_text(alloc, &mut out, &mut machine, events, page)?;
-    Ok(out)
+    push_text(alloc, &mut out, machine, events, page)?;
+    Ok(Sequence::from_vec(out))
 }
 
 /// The data of the page of a run, as one JSON text in ASCII without `<`: the program and its text, how the run ended, the state
@@ -148,8 +147,8 @@ pub fn page_text(
     requires most { page.now.most ≤ 20000 }
     ensures { IfOk result (IsPageOf checked shape fuel events.now page.now) }
 {
-    let machine = Machine::start(alloc, checked, shape, fuel)?;
+    let mut machine = Machine::start(alloc, checked, shape, fuel)?;
     // for the proof alone: no event has come, so the machine is the opened one, and the events are a run of it
     a_machine_is_kept(&machine);
-    Ok(Sequence::from_vec(text_of(alloc, machine, events, page)?))
+    text_of(alloc, &mut machine, events, page)
 }

@@ -126,6 +126,29 @@ impl Account {
     }
 }
 
+/// The account of the events that come on a machine, in these groups; None if one of them may not come.
+///
+/// # Errors
+/// `Memory` where there is no room.
+fn account_on(
+    alloc: Global,
+    machine: &mut Machine,
+    events: &[Event],
+    by: Grouping,
+) -> Result<Option<Account>, Memory>
+    requires few { machine.old.made + length events.now ≤ 4000000000 }
+    ensures some { IfOk result (λ came. IfSome came (λ account. account ≡ account_of_run machine.old.state (no_account machine.old.state.setting by) events.now)) }
+    ensures comes { IfOk result (λ came. IfSome came (λ account. IsRun machine.old.state events.now)) }
+    ensures none { IfOk result (λ came. IfNone came (IsRun machine.old.state events.now → ⊥)) }
+{
+    let mut account = Account::new(alloc, machine, by)?;
+    if account.note_all(machine, events)? {
+        Ok(Some(account))
+    } else {
+        Ok(None)
+    }
+}
+
 /// The account of the events that come on a machine, in these groups; None if one of them may not come. Fewer than
 /// 4,000,000,000 events must have come on the machine after them.
 ///
@@ -143,10 +166,5 @@ pub fn account_of(
     ensures none { IfOk result (λ came. IfNone came (IsRun machine.state events.now → ⊥)) }
 {
     let mut machine = machine;
-    let mut account = Account::new(alloc, &machine, by)?;
-    if account.note_all(&mut machine, events)? {
-        Ok(Some(account))
-    } else {
-        Ok(None)
-    }
+    account_on(alloc, &mut machine, events, by)
 }
