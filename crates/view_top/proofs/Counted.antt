@@ -5,22 +5,25 @@ use Rattle.rv_assembler.specs.Source.{source}
 use Rattle.account_table.specs.Tallies.{Tallies}
 use Rattle.account_text.specs.declared.form.Form.{Form}
 use Rattle.account_text.specs.Forms.{account_text}
+use Rattle.front_end.specs.Texts.{HasProgram}
 use Rattle.dn_top.specs.Documents.{shape_told}
 use Rattle.view_top.specs.declared.answering.Output.{Output}
 use Rattle.view_top.specs.declared.documents.KeptRun.{KeptRun}
 use Rattle.view_words.specs.declared.options.AccountOptions.{AccountOptions}
 use Rattle.view_top.specs.Answers.{heading_of, made, IsAccount, IsAccountOf}
-use Rattle.view_top.specs.Kept.{OfProgram}
-use Rattle.view_top.proofs.Kept.{of-program}
+use Rattle.view_top.proofs.Kept.{of-program, at-program}
 
 -- the numbers have the names of the text's program
 pub printed-is : (k : KeptRun) (form : Form) (tallies table : Tallies) (slice : List ℕ) (Q program : ProgramParts) (head text : List ℕ) (out : Output) → slice ≡ k.text → source slice ≡ Ok Q → program ≡ Q → table ≡ tallies
-    → head ≡ heading_of form k.run → text ≡ head ++ account_text form program table → out ≡ made text → OfProgram k.text (λ P. out ≡ made (heading_of form k.run ++ account_text form P tallies))
+    → head ≡ heading_of form k.run → text ≡ head ++ account_text form program table → out ≡ made text → HasProgram k.text (λ P. out ≡ made (heading_of form k.run ++ account_text form P tallies))
 printed-is k form tallies table slice Q program head text out same is one counted begins told answer =
     let whole : head ++ account_text form program table ≡ heading_of form k.run ++ account_text form Q tallies = cc in
     of-program k.text slice Q (λ (P : ProgramParts). out ≡ made (heading_of form k.run ++ account_text form P tallies)) same is (answer ∙ ap made (told ∙ whole))
 
-pub account-is : {E : Type 0} (k : KeptRun) (o : AccountOptions) (tallies : Tallies) (r : Result Output E) → OfProgram k.text (λ P. IsAccountOf P (shape_told P k.sizes) k.sizes.fuel k.run.events o.by tallies)
-    → IfOk r (λ out. OfProgram k.text (λ P. out ≡ made (heading_of o.form k.run ++ account_text o.form P tallies))) → IfOk r (λ out. OfProgram k.text (λ P. IsAccount P k.sizes o k.run out))
+pub account-is : {E : Type 0} (k : KeptRun) (o : AccountOptions) (tallies : Tallies) (r : Result Output E) → HasProgram k.text (λ P. IsAccountOf P (shape_told P k.sizes) k.sizes.fuel k.run.events o.by tallies)
+    → IfOk r (λ out. HasProgram k.text (λ P. out ≡ made (heading_of o.form k.run ++ account_text o.form P tallies))) → IfOk r (λ out. HasProgram k.text (λ P. IsAccount P k.sizes o k.run out))
 account-is k o tallies (Err e) counted printed = tt
-account-is k o tallies (Ok out) counted printed = λ P there. record { tallies = tallies; counted = counted P there; answer = printed P there }
+account-is k o tallies (Ok out) counted printed =
+    let P = counted.program in
+    let answer = at-program k.text P (λ (Q : ProgramParts). out ≡ made (heading_of o.form k.run ++ account_text o.form Q tallies)) counted.is printed in
+    record { program = P; is = counted.is; holds = record { tallies = tallies; counted = counted.holds; answer = answer } }

@@ -16,15 +16,16 @@ use Rattle.run_replay.specs.declared.trace.Trace.{Trace}
 use Rattle.run_replay.specs.Document.{IsDocument}
 use Rattle.front_end.specs.declared.programs.Stop.{Stop}
 use Rattle.front_end.specs.declared.programs.Stop.TheVariants.{Refused, Memory}
-use Rattle.front_end.specs.Texts.{HasChecked, IsStop}
+use Rattle.front_end.specs.Texts.{HasChecked, HasProgram, IsStop}
 use Rattle.dn_top.specs.Answers.{IsRefusedDocument}
 use Rattle.dn_top.specs.Documents.{shape_told, HasTrace, IsNoRun, IsRunTold}
 use Rattle.dn_top.specs.Runs.{IsPrintable}
+use Rattle.dn_top.proofs.OneProgram.{one-program}
 use Rattle.view_top.specs.declared.answering.Output.{Output}
 use Rattle.view_top.specs.declared.documents.KeptRun.{KeptRun}
 use Rattle.view_words.specs.declared.options.StateOptions.{StateOptions}
 use Rattle.view_top.specs.Answers.{located, HasKeptRun, IsStateShown}
-use Rattle.view_top.specs.Kept.{kept_run_of, IsKeptRun, IsViewable, OfProgram}
+use Rattle.view_top.specs.Kept.{kept_run_of, IsFit, IsKeptRun, IsViewable}
 
 -- the events of a document's run are a run of its machine
 run-on : (P : ProgramParts) (t : Trace) (r : RunRecord) → IsRunTold P t r → IsRunOn P (shape_told P t.shape) t.shape.fuel r.events
@@ -44,20 +45,18 @@ module _ (document text : List ℕ) (t : Trace) (P : ProgramParts) where
         holds = record { program = P; is = ap source (sym same) ∙ is; checked = checked; holds = record { run = k.run; told = h.told; holds = h.is } };
       }
 
-  ready : (run : RunRecord) → IsDocument document t → source t.text ≡ Ok P → IsRunTold P t run → IsPrintable run → IsViewable (kept_run_of t run)
-  ready run told is tells printable =
+  ready : (run : RunRecord) → IsDocument document t → source t.text ≡ Ok P → IsChecked P → IsRunTold P t run → IsPrintable run → IsViewable (kept_run_of t run)
+  ready run told is checked tells printable =
       record {
         sizes = told.told.head.shape;
         few = subst (λ (es : List Event). length es ≤ 25169664) (sym tells.events) told.told.head.count;
-        run = λ Q there.
-            let one : P ≡ Q = cc in
-            subst (λ (p : ProgramParts). IsRunOn p (shape_told p t.shape) t.shape.fuel run.events) one (run-on P t run tells);
+        run = record { program = P; is = is; checked = checked; holds = run-on P t run tells };
         printable = printable;
       }
 
-  pub viewable : (r : Result KeptRun Stop) → IsDocument document t → text ≡ t.text → source text ≡ Ok P → IfOk r (IsKeptRun P t) → IfOk r IsViewable
-  viewable (Err s) told same is h = tt
-  viewable (Ok k) told same is h = subst IsViewable (sym h.is) (ready k.run told (ap source (sym same) ∙ is) h.told h.printable)
+  pub viewable : (r : Result KeptRun Stop) → IsDocument document t → text ≡ t.text → source text ≡ Ok P → IsChecked P → IfOk r (IsKeptRun P t) → IfOk r IsViewable
+  viewable (Err s) told same is checked h = tt
+  viewable (Ok k) told same is checked h = subst IsViewable (sym h.is) (ready k.run told (ap source (sym same) ∙ is) checked h.told h.printable)
 
   refused-stop : (s : Stop) → IsDocument document t → text ≡ t.text → source text ≡ Ok P → IsChecked P → IsStop (IsNoRun P t) s → IsStop (IsRefusedDocument document) s
   refused-stop Memory told same is checked h = tt
@@ -73,33 +72,44 @@ module _ (document text : List ℕ) (t : Trace) (P : ProgramParts) where
       → HasTrace document (λ x. HasChecked x.text (λ Q. IsStateShown Q x o out))
   state-shown o out told same is checked h = record { trace = t; is = told; holds = record { program = P; is = ap source (sym same) ∙ is; checked = checked; holds = h } }
 
--- what holds of one program of a text holds of its program
-pub of-program : (text slice : List ℕ) (Q : ProgramParts) (Holds : ProgramParts → Type 0) → slice ≡ text → source slice ≡ Ok Q → Holds Q → OfProgram text Holds
-of-program text slice Q Holds same is holds P there =
-    let one : Q ≡ P = cc in
-    subst Holds one holds
+-- what holds of the program that was assembled from a text holds of the text's program
+pub of-program : (text slice : List ℕ) (Q : ProgramParts) (Holds : ProgramParts → Type 0) → slice ≡ text → source slice ≡ Ok Q → Holds Q → HasProgram text Holds
+of-program text slice Q Holds same is holds = record { program = Q; is = ap source (sym same) ∙ is; holds = holds }
+
+-- what holds of a text's program holds of each, since it has one
+pub at-program : (text : List ℕ) (P : ProgramParts) (Holds : ProgramParts → Type 0) → source text ≡ Ok P → HasProgram text Holds → Holds P
+at-program text P Holds is has = subst Holds (one-program text has.program P has.is is) has.holds
+
+pub with-more : (text : List ℕ) (Holds More : ProgramParts → Type 0) → ((P : ProgramParts) → Holds P → More P) → HasProgram text Holds → HasProgram text More
+with-more text Holds More more has = record { program = has.program; is = has.is; holds = more has.program has.holds }
+
+-- a kept run's text may be run
+pub fit : (k : KeptRun) (slice : List ℕ) → slice ≡ k.text → IsViewable k → IsFit slice
+fit k slice same can = record { program = can.run.program; is = ap source same ∙ can.run.is; checked = can.run.checked; holds = tt }
 
 module _ (k : KeptRun) (slice : List ℕ) (Q : ProgramParts) (shape : Shape) where
   -- the run of a kept run, for the program that was assembled from its text
   pub run-of-kept : (events : List Event) → IsViewable k → slice ≡ k.text → source slice ≡ Ok Q → shape ≡ shape_told Q k.sizes → events ≡ k.run.events → IsRunOn Q shape k.sizes.fuel events
   run-of-kept events can same is at are =
       subst (λ (s : Shape). IsRunOn Q s k.sizes.fuel events) (sym at)
-      (subst (λ (es : List Event). IsRunOn Q (shape_told Q k.sizes) k.sizes.fuel es) (sym are) (can.run Q (ap source (sym same) ∙ is)))
+      (subst (λ (es : List Event). IsRunOn Q (shape_told Q k.sizes) k.sizes.fuel es) (sym are)
+      (subst (λ (P : ProgramParts). IsRunOn P (shape_told P k.sizes) k.sizes.fuel k.run.events) (one-program k.text can.run.program Q can.run.is (ap source (sym same) ∙ is)) can.run.holds))
 
   -- what is made with that program is made of the kept run
   pub made-of-kept : {X E : Type 0} (events : List Event) (Holds : ProgramParts → Shape → List Event → X → Type 0) (r : Result X E) → slice ≡ k.text → source slice ≡ Ok Q → shape ≡ shape_told Q k.sizes → events ≡ k.run.events
-      → IfOk r (Holds Q shape events) → IfOk r (λ x. OfProgram k.text (λ P. Holds P (shape_told P k.sizes) k.run.events x))
+      → IfOk r (Holds Q shape events) → IfOk r (λ x. HasProgram k.text (λ P. Holds P (shape_told P k.sizes) k.run.events x))
   made-of-kept events Holds (Err e) same is at are holds = tt
   made-of-kept events Holds (Ok x) same is at are holds =
       of-program k.text slice Q (λ (P : ProgramParts). Holds P (shape_told P k.sizes) k.run.events x) same is
       (subst (λ (es : List Event). Holds Q (shape_told Q k.sizes) es x) are (subst (λ (s : Shape). Holds Q s events x) at holds))
 
 -- what holds of the run that is handed on holds of the document's
-pub holds-of : (document : List ℕ) (k : KeptRun) (Holds : ProgramParts → KeptRun → Type 0) → HasKeptRun document (λ _ t run. k ≡ kept_run_of t run) → OfProgram k.text (λ P. Holds P k)
+pub holds-of : (document : List ℕ) (k : KeptRun) (Holds : ProgramParts → KeptRun → Type 0) → HasKeptRun document (λ _ t run. k ≡ kept_run_of t run) → HasProgram k.text (λ P. Holds P k)
     → HasKeptRun document (λ L t run. Holds L.program (kept_run_of t run))
 holds-of document k Holds has holds =
     let told = has.holds.holds in
-    let here = subst (λ (x : KeptRun). OfProgram x.text (λ P. Holds P x)) told.holds holds in
+    let here = subst (λ (x : KeptRun). HasProgram x.text (λ P. Holds P x)) told.holds holds in
+    let kept = kept_run_of has.trace told.run in
     record {
       trace = has.trace;
       is = has.is;
@@ -108,6 +118,6 @@ holds-of document k Holds has holds =
             program = has.holds.program;
             is = has.holds.is;
             checked = has.holds.checked;
-            holds = record { run = told.run; told = told.told; holds = here has.holds.program has.holds.is };
+            holds = record { run = told.run; told = told.told; holds = at-program has.trace.text has.holds.program (λ (P : ProgramParts). Holds P kept) has.holds.is here };
           };
     }

@@ -12,42 +12,51 @@ use Rattle.message_chart.specs.declared.chart.Chart.{Chart}
 use Rattle.message_chart.specs.Picture.{svg_of}
 use Rattle.run_chart.specs.declared.drawing.Range.{Range}
 use Rattle.run_chart.specs.Charts.{IsChartOf}
+use Rattle.front_end.specs.Texts.{HasProgram}
 use Rattle.dn_top.specs.Documents.{shape_told}
 use Rattle.view_top.specs.declared.answering.Output.{Output}
 use Rattle.view_top.specs.declared.documents.KeptRun.{KeptRun}
 use Rattle.view_words.specs.declared.options.ChartOptions.{ChartOptions}
 use Rattle.view_top.specs.Answers.{IsPicture, chart_ticks, last_number, located, made, range_for}
-use Rattle.view_top.specs.Kept.{IsKeptChain, IsKeptTiming, OfProgram}
+use Rattle.view_top.specs.Kept.{IsKeptChain, IsKeptTiming}
+use Rattle.view_top.proofs.Kept.{at-program}
 
 -- the events of the longest chain, by the ticks that the options give
-pub chain-is : {E : Type 0} (k : KeptRun) (o : ChartOptions) (ticks : Ticks) (timing : Timing) (links : List Link) (r : Result (List ℕ) E) → ticks ≡ chart_ticks o → links ≡ timing.links.items → OfProgram k.text (IsKeptTiming k ticks timing)
-    → IfOk r (λ numbers. numbers ≡ numbers_in links) → IfOk r (λ chain. OfProgram k.text (IsKeptChain k (chart_ticks o) chain))
+pub chain-is : {E : Type 0} (k : KeptRun) (o : ChartOptions) (ticks : Ticks) (timing : Timing) (links : List Link) (r : Result (List ℕ) E) → ticks ≡ chart_ticks o → links ≡ timing.links.items → HasProgram k.text (IsKeptTiming k ticks timing)
+    → IfOk r (λ numbers. numbers ≡ numbers_in links) → IfOk r (λ chain. HasProgram k.text (IsKeptChain k (chart_ticks o) chain))
 chain-is k o ticks timing links (Err e) are same timed numbers = tt
-chain-is k o ticks timing links (Ok chain) are same timed numbers = λ P there.
-    record { timing = timing; times = subst (λ (x : Ticks). IsKeptTiming k x timing P) are (timed P there); is = numbers ∙ ap numbers_in same }
+chain-is k o ticks timing links (Ok chain) are same timed numbers =
+    let P = timed.program in
+    let times = subst (λ (x : Ticks). IsKeptTiming k x timing P) are timed.holds in
+    record { program = P; is = timed.is; holds = record { timing = timing; times = times; is = numbers ∙ ap numbers_in same } }
 
 -- the picture has the names of the text
 pub drawn-is : (text : List ℕ) (chart : Chart) (L : Located) (picture : List ℕ) (out : Output) → source text ≡ Ok L.program → L.places ≡ text_places text → picture ≡ svg_of chart L → out ≡ made picture
-    → OfProgram text (λ P. out ≡ made (svg_of chart (located P text)))
-drawn-is text chart L picture out is places says answer P there =
-    let one : L.program ≡ P = cc in
-    let here : L ≡ located P text = rw (sym one, sym places) refl in
-    answer ∙ ap made (says ∙ ap (svg_of chart) here)
+    → HasProgram text (λ P. out ≡ made (svg_of chart (located P text)))
+drawn-is text chart L picture out is places says answer =
+    let here : L ≡ located L.program text = rw (sym places) refl in
+    record { program = L.program; is = is; holds = answer ∙ ap made (says ∙ ap (svg_of chart) here) }
 
 pub picture-is : {E : Type 0} (k : KeptRun) (o : ChartOptions) (chain numbers text : List ℕ) (range : Range) (chart : Chart) (r : Result Output E) → o.first ≤ last_number k.run.events → range ≡ range_for o → numbers ≡ chain → text ≡ k.text
-    → OfProgram k.text (IsKeptChain k (chart_ticks o) chain) → OfProgram k.text (λ P. IsChartOf P (shape_told P k.sizes) k.sizes.fuel k.run.events range numbers o.columns chart)
-    → IfOk r (λ out. OfProgram text (λ P. out ≡ made (svg_of chart (located P text)))) → IfOk r (λ out. OfProgram k.text (λ P. IsPicture (located P k.text) k.sizes o k.run.events out))
+    → HasProgram k.text (IsKeptChain k (chart_ticks o) chain) → HasProgram k.text (λ P. IsChartOf P (shape_told P k.sizes) k.sizes.fuel k.run.events range numbers o.columns chart)
+    → IfOk r (λ out. HasProgram text (λ P. out ≡ made (svg_of chart (located P text)))) → IfOk r (λ out. HasProgram k.text (λ P. IsPicture (located P k.text) k.sizes o k.run.events out))
 picture-is k o chain numbers text range chart (Err e) within range_is same here chained charted drawn = tt
-picture-is k o chain numbers text range chart (Ok out) within range_is same here chained charted drawn = λ P there.
-    let c = chained P there in
-    let named = subst (λ (x : List ℕ). OfProgram x (λ (p : ProgramParts). out ≡ made (svg_of chart (located p x)))) here drawn in
+picture-is k o chain numbers text range chart (Ok out) within range_is same here chained charted drawn =
+    let P = charted.program in
+    let c = at-program k.text P (λ (Q : ProgramParts). IsKeptChain k (chart_ticks o) chain Q) charted.is chained in
+    let named = subst (λ (x : List ℕ). HasProgram x (λ (Q : ProgramParts). out ≡ made (svg_of chart (located Q x)))) here drawn in
     record {
-      within = within;
-      timing = c.timing;
-      times = c.times;
-      chart = chart;
-      is =
-          subst (λ (x : List ℕ). IsChartOf P (shape_told P k.sizes) k.sizes.fuel k.run.events (range_for o) x o.columns chart) (same ∙ c.is)
-          (subst (λ (x : Range). IsChartOf P (shape_told P k.sizes) k.sizes.fuel k.run.events x numbers o.columns chart) range_is (charted P there));
-      answer = named P there;
+      program = P;
+      is = charted.is;
+      holds =
+          record {
+            within = within;
+            timing = c.timing;
+            times = c.times;
+            chart = chart;
+            is =
+                subst (λ (x : List ℕ). IsChartOf P (shape_told P k.sizes) k.sizes.fuel k.run.events (range_for o) x o.columns chart) (same ∙ c.is)
+                (subst (λ (x : Range). IsChartOf P (shape_told P k.sizes) k.sizes.fuel k.run.events x numbers o.columns chart) range_is charted.holds);
+            answer = at-program k.text P (λ (Q : ProgramParts). out ≡ made (svg_of chart (located Q k.text))) charted.is named;
+          };
     }

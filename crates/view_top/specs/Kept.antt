@@ -1,7 +1,6 @@
 -- The run of a document, as it is passed between calls.
-use Rattle.std.specs.Prelude.{◌≡◌, ◌≤◌, ℕ, List, length, Ok}
+use Rattle.std.specs.Prelude.{◌≡◌, ◌≤◌, ℕ, List, length}
 use Rattle.region_table.specs.Program.{ProgramParts}
-use Rattle.rv_assembler.specs.Source.{source}
 use Rattle.message_net.specs.declared.event.Event.{Event}
 use Rattle.dn_machine.specs.declared.record.RunRecord.{RunRecord}
 use Rattle.dn_machine.specs.Settings.{IsRunOn}
@@ -10,6 +9,7 @@ use Rattle.run_replay.specs.Document.{IsTraceShape}
 use Rattle.run_timing.specs.declared.ticks.Ticks.{Ticks}
 use Rattle.run_timing.specs.declared.timing.Timing.{Timing}
 use Rattle.run_timing.specs.Longest.{IsTimingOf, numbers_in}
+use Rattle.front_end.specs.Texts.{HasChecked}
 use Rattle.dn_top.specs.Documents.{shape_told, IsRunTold}
 use Rattle.dn_top.specs.Runs.{IsPrintable}
 use Rattle.view_top.specs.declared.documents.KeptRun.{KeptRun}
@@ -18,9 +18,9 @@ use Rattle.view_top.specs.declared.documents.KeptRun.{KeptRun}
 abbrev pub kept_run_of : Trace → RunRecord → KeptRun
 kept_run_of t run = record { sizes = t.shape; text = t.text; run = run }
 
--- this holds of the program of a text, which has one at most
-abbrev pub OfProgram : List ℕ → (ProgramParts → Type 0) → Type 0
-OfProgram text Holds = (P : ProgramParts) → source text ≡ Ok P → Holds P
+-- the text has a program whose tasks don't conflict: it may be run
+abbrev pub IsFit : List ℕ → Type 0
+IsFit text = HasChecked text (λ P. Unit {0})
 
 -- the run of what a document tells is kept, and may be printed
 pub record IsKeptRun (P : ProgramParts) (t : Trace) (k : KeptRun) : Type 0 where
@@ -32,7 +32,7 @@ pub record IsKeptRun (P : ProgramParts) (t : Trace) (k : KeptRun) : Type 0 where
 pub record IsViewable (k : KeptRun) : Type 0 where
   pub sizes : IsTraceShape k.sizes
   pub few : length k.run.events ≤ 25169664
-  pub run : OfProgram k.text (λ P. IsRunOn P (shape_told P k.sizes) k.sizes.fuel k.run.events)
+  pub run : HasChecked k.text (λ P. IsRunOn P (shape_told P k.sizes) k.sizes.fuel k.run.events)
   pub printable : IsPrintable k.run
 
 -- the timing of a kept run on the machine of a program, by these ticks

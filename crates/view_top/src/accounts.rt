@@ -3,13 +3,13 @@ ghost use Rattle.std.specs.Prelude.{◌≡◌, ◌≤◌, ◌++◌, length, IfOk
 ghost use Rattle.account_text.specs.Forms.{account_text};
 ghost use Rattle.run_replay.specs.Document.{IsTraceShape};
 ghost use Rattle.dn_machine.specs.Settings.{IsRunOn};
-ghost use Rattle.front_end.specs.Texts.{IsStop};
+ghost use Rattle.front_end.specs.Texts.{HasProgram, IsStop};
 ghost use Rattle.dn_top.specs.Answers.{IsRefusedDocument};
 ghost use Rattle.dn_top.specs.Documents.{shape_told};
 ghost use Rattle.dn_top.specs.Runs.{IsPrintable};
 ghost use Rattle.view_words.specs.declared.options.View.TheVariants as view;
 ghost use Rattle.view_top.specs.Answers.{heading_of, made, view_made, IsAccount, IsAccountOf};
-ghost use Rattle.view_top.specs.Kept.{IsViewable, OfProgram};
+ghost use Rattle.view_top.specs.Kept.{IsViewable};
 
 use crate::answering::{Output, done_with};
 use crate::documents::{KeptRun, kept_run, program_in, shape_of};
@@ -64,7 +64,7 @@ fn heading(alloc: Global, form: Form, run: &RunRecord) -> Result<Vec<u8>, Memory
 /// The account of a kept run's events, in these groups.
 fn account_of_kept(alloc: Global, by: Grouping, kept: &KeptRun) -> Result<Account, Memory>
     requires { IsViewable kept.now }
-    ensures { IfOk result (λ account. OfProgram kept.now.text (λ P. IsAccountOf P (shape_told P kept.now.sizes) kept.now.sizes.fuel kept.now.run.events by account.tallies)) }
+    ensures { IfOk result (λ account. HasProgram kept.now.text (λ P. IsAccountOf P (shape_told P kept.now.sizes) kept.now.sizes.fuel kept.now.run.events by account.tallies)) }
 {
     let program = program_in(alloc, kept.text.as_slice())?;
     counted(alloc, kept.sizes, kept.run.events.as_slice(), by, program)
@@ -72,8 +72,8 @@ fn account_of_kept(alloc: Global, by: Grouping, kept: &KeptRun) -> Result<Accoun
 
 /// An account, as it is printed.
 fn printed(alloc: Global, form: Form, kept: &KeptRun, account: &Account) -> Result<Output, Memory>
-    requires { IsPrintable kept.now.run }
-    ensures { IfOk result (λ out. OfProgram kept.now.text (λ P. out ≡ made (heading_of form kept.now.run ++ account_text form P account.now.tallies))) }
+    requires { IsViewable kept.now }
+    ensures { IfOk result (λ out. HasProgram kept.now.text (λ P. out ≡ made (heading_of form kept.now.run ++ account_text form P account.now.tallies))) }
 {
     let program = program_in(alloc, kept.text.as_slice())?;
     let mut text = heading(alloc, form, &kept.run)?;
@@ -84,7 +84,7 @@ fn printed(alloc: Global, form: Form, kept: &KeptRun, account: &Account) -> Resu
 /// The account of a run, as the options ask for it.
 fn account(alloc: Global, options: &AccountOptions, kept: &KeptRun) -> Result<Output, Memory>
     requires { IsViewable kept.now }
-    ensures { IfOk result (λ out. OfProgram kept.now.text (λ P. IsAccount P kept.now.sizes options.now kept.now.run out)) }
+    ensures { IfOk result (λ out. HasProgram kept.now.text (λ P. IsAccount P kept.now.sizes options.now kept.now.run out)) }
 {
     let account = account_of_kept(alloc, options.by, kept)?;
     printed(alloc, options.form, kept, &account)

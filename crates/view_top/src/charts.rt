@@ -4,13 +4,13 @@ ghost use Rattle.run_timing.specs.Longest.{numbers_in};
 ghost use Rattle.run_timing.specs.Ticks.{AreWithinLimits};
 ghost use Rattle.message_chart.specs.Picture.{svg_of};
 ghost use Rattle.run_chart.specs.Charts.{IsChartOf};
-ghost use Rattle.front_end.specs.Texts.{IsStop};
+ghost use Rattle.front_end.specs.Texts.{HasProgram, IsStop};
 ghost use Rattle.dn_top.specs.Answers.{IsRefusedDocument};
 ghost use Rattle.dn_top.specs.Documents.{shape_told};
 ghost use Rattle.view_words.specs.declared.options.View.TheVariants as view;
 ghost use Rattle.view_top.specs.Answers.{chart_ticks, last_number, located, made, range_for, view_made, IsDrawn, IsPicture};
 ghost use Rattle.view_words.specs.Command.{IsChartInRange};
-ghost use Rattle.view_top.specs.Kept.{IsKeptChain, IsViewable, OfProgram};
+ghost use Rattle.view_top.specs.Kept.{IsFit, IsKeptChain, IsViewable};
 
 use crate::answering::{Output, done_with, refused_words};
 use crate::documents::{KeptRun, kept_run, places_in, program_in, shape_of};
@@ -65,7 +65,7 @@ fn numbers_in(alloc: Global, links: &[Link]) -> Result<Sequence<u32>, Memory>
 fn chain_of(alloc: Global, options: &ChartOptions, kept: &KeptRun) -> Result<Sequence<u32>, Memory>
     requires limits { IsChartInRange options.now }
     requires kept { IsViewable kept.now }
-    ensures { IfOk result (λ chain. OfProgram kept.now.text (IsKeptChain kept.now (chart_ticks options.now) chain)) }
+    ensures { IfOk result (λ chain. HasProgram kept.now.text (IsKeptChain kept.now (chart_ticks options.now) chain)) }
 {
     let timing = timing_of(alloc, kept, &chart_ticks(options))?;
     numbers_in(alloc, timing.links.as_slice())
@@ -81,7 +81,7 @@ fn chart_of(
 ) -> Result<Chart, Memory>
     requires kept { IsViewable kept.now }
     requires most { range.most ≤ 4096 }
-    ensures { IfOk result (λ chart. OfProgram kept.now.text (λ P. IsChartOf P (shape_told P kept.now.sizes) kept.now.sizes.fuel kept.now.run.events range chain.now columns chart)) }
+    ensures { IfOk result (λ chart. HasProgram kept.now.text (λ P. IsChartOf P (shape_told P kept.now.sizes) kept.now.sizes.fuel kept.now.run.events range chain.now columns chart)) }
 {
     let program = program_in(alloc, kept.text.as_slice())?;
     let shape = shape_of(kept.sizes, &program);
@@ -92,7 +92,8 @@ fn chart_of(
 
 /// A chart drawn, with the names of the text.
 fn drawn(alloc: Global, chart: &Chart, text: &[u8]) -> Result<Output, Memory>
-    ensures { IfOk result (λ out. OfProgram text.now (λ P. out ≡ made (svg_of chart.now (located P text.now)))) }
+    requires { IsFit text.now }
+    ensures { IfOk result (λ out. HasProgram text.now (λ P. out ≡ made (svg_of chart.now (located P text.now)))) }
 {
     let located = places_in(alloc, text)?;
     Ok(done_with(chart_text(alloc, chart, &located)?))
@@ -103,7 +104,7 @@ fn picture(alloc: Global, options: &ChartOptions, kept: &KeptRun) -> Result<Outp
     requires limits { IsChartInRange options.now }
     requires within { options.now.first ≤ last_number kept.now.run.events }
     requires kept { IsViewable kept.now }
-    ensures { IfOk result (λ out. OfProgram kept.now.text (λ P. IsPicture (located P kept.now.text) kept.now.sizes options.now kept.now.run.events out)) }
+    ensures { IfOk result (λ out. HasProgram kept.now.text (λ P. IsPicture (located P kept.now.text) kept.now.sizes options.now kept.now.run.events out)) }
 {
     let chain = chain_of(alloc, options, kept)?;
     let range = range_for(options);
@@ -115,7 +116,7 @@ fn picture(alloc: Global, options: &ChartOptions, kept: &KeptRun) -> Result<Outp
 fn draw(alloc: Global, options: &ChartOptions, kept: &KeptRun) -> Result<Output, Memory>
     requires limits { IsChartInRange options.now }
     requires kept { IsViewable kept.now }
-    ensures { IfOk result (λ out. OfProgram kept.now.text (λ P. IsDrawn (located P kept.now.text) kept.now.sizes options.now kept.now.run out)) }
+    ensures { IfOk result (λ out. HasProgram kept.now.text (λ P. IsDrawn (located P kept.now.text) kept.now.sizes options.now kept.now.run out)) }
 {
     if options.first as usize > last_number(kept.run.events.as_slice()) {
         return refused_words(alloc);

@@ -7,13 +7,14 @@ ghost use Rattle.front_end.specs.Texts.{IsStop};
 ghost use Rattle.dn_top.specs.Answers.{IsRefusedDocument};
 ghost use Rattle.dn_top.specs.Documents.{shape_told, IsNoRun};
 ghost use Rattle.view_top.specs.Answers.{HasKeptRun};
-ghost use Rattle.view_top.specs.Kept.{kept_run_of, IsKeptRun, IsViewable};
+ghost use Rattle.view_top.specs.Kept.{kept_run_of, IsFit, IsKeptRun, IsViewable};
 
 use dn_base::{Memory, Sequence, Shape};
 use dn_top::{RunRecord, run_told, shape_told, trace_in};
 use effect_checker::Checked;
 use front_end::{Stop, checked_of};
 use run_replay::{Trace, TraceShape};
+use rv_assembler::SourceFault;
 use std::alloc::Global;
 use text_places::{Located, located_program};
 
@@ -33,24 +34,34 @@ pub(crate) fn shape_of(sizes: TraceShape, checked: &Checked) -> Shape
     shape_told(sizes, checked.program())
 }
 
-/// The checked program of a text that has one: its text was checked before, so only memory can be missing.
+/// The checked program of a text that may be run.
+///
+/// # Errors
+/// `Memory` where there is no room, and for nothing else: such a text isn't refused.
 pub(crate) fn program_in(alloc: Global, text: &[u8]) -> Result<Checked, Memory>
+    requires { IsFit text.now }
     ensures { IfOk result (λ program. source text.now ≡ Ok program) }
 {
     match checked_of(alloc, text) {
         Ok(program) => Ok(program),
-        Err(_) => Err(Memory),
+        Err(Stop::Memory) => Err(Memory),
+        Err(Stop::Refused(_)) => unreachable!(),
     }
 }
 
-/// The program of a text that has one, with the lines of its parts: its text was assembled before, so only memory can be missing.
+/// The program of a text that may be run, with the lines of its parts.
+///
+/// # Errors
+/// `Memory` where there is no room, and for nothing else: such a text has no fault.
 pub(crate) fn places_in(alloc: Global, text: &[u8]) -> Result<Located, Memory>
+    requires { IsFit text.now }
     ensures program { IfOk result (λ located. source text.now ≡ Ok located.program) }
     ensures places { IfOk result (λ located. located.places ≡ text_places text.now) }
 {
     match located_program(alloc, text) {
         Ok(located) => Ok(located),
-        Err(_) => Err(Memory),
+        Err(SourceFault::Memory) => Err(Memory),
+        Err(_) => unreachable!(),
     }
 }
 

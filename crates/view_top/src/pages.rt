@@ -2,13 +2,13 @@
 ghost use Rattle.std.specs.Prelude.{◌≡◌, ◌≤◌, IfOk, IfErr};
 ghost use Rattle.run_timing.specs.Ticks.{AreWithinLimits};
 ghost use Rattle.page_data.specs.Page.{IsPageOf};
-ghost use Rattle.front_end.specs.Texts.{IsStop};
+ghost use Rattle.front_end.specs.Texts.{HasProgram, IsStop};
 ghost use Rattle.dn_top.specs.Answers.{IsRefusedDocument};
 ghost use Rattle.dn_top.specs.Documents.{shape_told};
 ghost use Rattle.view_words.specs.declared.options.View.TheVariants as view;
 ghost use Rattle.view_top.specs.Answers.{last_number, page_ticks, view_made, IsPageData, IsPageFor, IsPaged};
 ghost use Rattle.view_words.specs.Command.{IsPageInRange};
-ghost use Rattle.view_top.specs.Kept.{IsViewable, OfProgram};
+ghost use Rattle.view_top.specs.Kept.{IsViewable};
 
 use crate::answering::{Output, refused_words};
 use crate::charts::last_number;
@@ -59,7 +59,7 @@ fn page_for<'a>(
 fn bytes_of(alloc: Global, kept: &KeptRun, page: &Page<'_>) -> Result<Sequence<u8>, Memory>
     requires kept { IsViewable kept.now }
     requires most { page.now.most ≤ 20000 }
-    ensures { IfOk result (λ bytes. OfProgram kept.now.text (λ P. IsPageOf P (shape_told P kept.now.sizes) kept.now.sizes.fuel kept.now.run.events page.now bytes)) }
+    ensures { IfOk result (λ bytes. HasProgram kept.now.text (λ P. IsPageOf P (shape_told P kept.now.sizes) kept.now.sizes.fuel kept.now.run.events page.now bytes)) }
 {
     let program = program_in(alloc, kept.text.as_slice())?;
     let shape = shape_of(kept.sizes, &program);
@@ -79,7 +79,7 @@ fn data(alloc: Global, options: &PageOptions, kept: &KeptRun) -> Result<Output, 
     requires limits { IsPageInRange options.now }
     requires within { options.now.first ≤ last_number kept.now.run.events }
     requires kept { IsViewable kept.now }
-    ensures { IfOk result (λ out. OfProgram kept.now.text (λ P. IsPageData P kept.now.sizes kept.now.text options.now kept.now.run out)) }
+    ensures { IfOk result (λ out. HasProgram kept.now.text (λ P. IsPageData P kept.now.sizes kept.now.text options.now kept.now.run out)) }
 {
     let timing = timing_of(alloc, kept, &page_ticks(options))?;
     let page = page_for(options, &kept.text, &kept.run, &timing);
@@ -94,7 +94,7 @@ fn data(alloc: Global, options: &PageOptions, kept: &KeptRun) -> Result<Output, 
 fn paged(alloc: Global, options: &PageOptions, kept: &KeptRun) -> Result<Output, Memory>
     requires limits { IsPageInRange options.now }
     requires kept { IsViewable kept.now }
-    ensures { IfOk result (λ out. OfProgram kept.now.text (λ P. IsPaged P kept.now.sizes kept.now.text options.now kept.now.run out)) }
+    ensures { IfOk result (λ out. HasProgram kept.now.text (λ P. IsPaged P kept.now.sizes kept.now.text options.now kept.now.run out)) }
 {
     if options.first as usize > last_number(kept.run.events.as_slice()) {
         return refused_words(alloc);

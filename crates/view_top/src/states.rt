@@ -5,6 +5,7 @@ ghost use Rattle.text_places.specs.Places.{text_places};
 ghost use Rattle.front_end.specs.Texts.{IsStop};
 ghost use Rattle.view_words.specs.declared.options.View.TheVariants as view;
 ghost use Rattle.view_top.specs.Answers.{status_at, view_made, IsStateShown, IsWithoutProgram};
+ghost use Rattle.view_top.specs.Kept.{IsFit};
 
 use crate::answering::{Output, refused_words};
 use crate::documents::{places_in, shape_of};
@@ -60,7 +61,8 @@ fn state_in(
     trace: &Trace,
     checked: Checked,
 ) -> Result<Output, Memory>
-    requires { IsTrace trace.now }
+    requires told { IsTrace trace.now }
+    requires text { IsFit trace.now.text }
     ensures { IfOk result (IsStateShown checked trace.now options.now) }
 {
     if options.event as usize > trace.events.len() {

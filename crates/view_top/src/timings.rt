@@ -1,7 +1,8 @@
 //! The timing of a document's run.
 ghost use Rattle.std.specs.Prelude.{◌≡◌, IfOk};
 ghost use Rattle.run_timing.specs.Ticks.{AreWithinLimits};
-ghost use Rattle.view_top.specs.Kept.{IsKeptTiming, IsViewable, OfProgram};
+ghost use Rattle.front_end.specs.Texts.{HasProgram};
+ghost use Rattle.view_top.specs.Kept.{IsKeptTiming, IsViewable};
 
 use crate::documents::{KeptRun, program_in, shape_of};
 use dn_base::Memory;
@@ -12,7 +13,7 @@ use std::alloc::Global;
 pub(crate) fn timing_of(alloc: Global, kept: &KeptRun, ticks: &Ticks) -> Result<Timing, Memory>
     requires kept { IsViewable kept.now }
     requires ticks { AreWithinLimits ticks.now }
-    ensures { IfOk result (λ timing. OfProgram kept.now.text (IsKeptTiming kept.now ticks.now timing)) }
+    ensures { IfOk result (λ timing. HasProgram kept.now.text (IsKeptTiming kept.now ticks.now timing)) }
 {
     let program = program_in(alloc, kept.text.as_slice())?;
     let shape = shape_of(kept.sizes, &program);

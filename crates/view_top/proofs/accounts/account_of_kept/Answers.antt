@@ -5,8 +5,11 @@ use Rattle.message_net.specs.declared.event.Event.{Event}
 use Rattle.run_account.specs.Account.{Accounted}
 use Rattle.view_top.specs.Answers.{IsAccountOf}
 use Rattle.dn_top.specs.Documents.{shape_told}
-use Rattle.view_top.proofs.Kept.{run-of-kept, made-of-kept}
+use Rattle.view_top.proofs.Kept.{fit, run-of-kept, made-of-kept}
 use Rattle.view_top.proofs.accounts.account_of_kept.Goals as goal
+
+pub program_in-requires : goal.program_in-requires
+program_in-requires c = fit c.args.kept.now c.as_slice.result.now c.as_slice.ensures c.requires
 
 pub counted-requires-clause-run : goal.counted-requires-clause-run
 counted-requires-clause-run c =

@@ -1,5 +1,9 @@
 use Rattle.view_top.proofs.Counted.{printed-is}
+use Rattle.view_top.proofs.Kept.{fit}
 use Rattle.view_top.proofs.accounts.printed.Goals as goal
+
+pub program_in-requires : goal.program_in-requires
+program_in-requires c = fit c.args.kept.now c.as_slice.result.now c.as_slice.ensures c.requires
 
 pub returns : goal.returns
 returns c =

@@ -4,8 +4,11 @@ use Rattle.region_table.specs.Program.{ProgramParts}
 use Rattle.message_net.specs.declared.event.Event.{Event}
 use Rattle.message_chart.specs.declared.chart.Chart.{Chart}
 use Rattle.run_chart.specs.Charts.{IsChartOf}
-use Rattle.view_top.proofs.Kept.{made-of-kept}
+use Rattle.view_top.proofs.Kept.{fit, made-of-kept}
 use Rattle.view_top.proofs.charts.chart_of.Goals as goal
+
+pub program_in-requires : goal.program_in-requires
+program_in-requires c = fit c.args.kept.now c.as_slice.result.now c.as_slice.ensures c.requires.kept
 
 pub returns : goal.returns
 returns c =

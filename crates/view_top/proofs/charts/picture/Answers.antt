@@ -1,5 +1,9 @@
 use Rattle.view_top.proofs.Pictures.{picture-is}
+use Rattle.view_top.proofs.Kept.{fit}
 use Rattle.view_top.proofs.charts.picture.Goals as goal
+
+pub drawn-requires : goal.drawn-requires
+drawn-requires c = fit c.args.kept.now c.as_slice-2.result.now c.as_slice-2.ensures c.requires.kept
 
 pub returns : goal.returns
 returns c =

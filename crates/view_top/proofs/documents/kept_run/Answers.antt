@@ -8,7 +8,8 @@ returns-clause-kept c =
 
 pub returns-clause-ready : goal.returns-clause-ready
 returns-clause-ready c =
-    viewable c.args.document.now c.as_slice.result.now c.in_ok-trace.trace c.in_ok-checked.checked c.kept_trace.result c.in_ok-trace.ensures.ok c.as_slice.ensures c.in_ok-checked.ensures.ok c.kept_trace.ensures.kept
+    viewable c.args.document.now c.as_slice.result.now c.in_ok-trace.trace c.in_ok-checked.checked c.kept_trace.result c.in_ok-trace.ensures.ok c.as_slice.ensures c.in_ok-checked.ensures.ok
+    c.in_ok-checked.ensures.checked c.kept_trace.ensures.kept
 
 pub returns-clause-stop : goal.returns-clause-stop
 returns-clause-stop c =

@@ -3,8 +3,11 @@ use Rattle.dn_base.specs.declared.ids.Shape.{Shape}
 use Rattle.region_table.specs.Program.{ProgramParts}
 use Rattle.message_net.specs.declared.event.Event.{Event}
 use Rattle.page_data.specs.Page.{IsPageOf}
-use Rattle.view_top.proofs.Kept.{run-of-kept, made-of-kept}
+use Rattle.view_top.proofs.Kept.{fit, run-of-kept, made-of-kept}
 use Rattle.view_top.proofs.pages.bytes_of.Goals as goal
+
+pub program_in-requires : goal.program_in-requires
+program_in-requires c = fit c.args.kept.now c.as_slice.result.now c.as_slice.ensures c.requires.kept
 
 pub page_text-requires-clause-run : goal.page_text-requires-clause-run
 page_text-requires-clause-run c =

@@ -1,5 +1,11 @@
+use Rattle.std.proofs.Common.{ap, sym, ◌∙◌}
+use Rattle.rv_assembler.specs.Source.{source}
 use Rattle.view_top.proofs.Kept.{state-shown}
 use Rattle.view_top.proofs.states.show_state.Goals as goal
+
+pub state_in-requires-clause-text : goal.state_in-requires-clause-text
+state_in-requires-clause-text c =
+    record { program = c.in_ok-checked.checked; is = ap source (sym c.as_slice.ensures) ∙ c.in_ok-checked.ensures.ok; checked = c.in_ok-checked.ensures.checked; holds = tt }
 
 pub returns-clause-made : goal.returns-clause-made
 returns-clause-made c =

@@ -4,8 +4,11 @@ use Rattle.region_table.specs.Program.{ProgramParts}
 use Rattle.message_net.specs.declared.event.Event.{Event}
 use Rattle.run_timing.specs.declared.timing.Timing.{Timing}
 use Rattle.run_timing.specs.Longest.{IsTimingOf}
-use Rattle.view_top.proofs.Kept.{run-of-kept, made-of-kept}
+use Rattle.view_top.proofs.Kept.{fit, run-of-kept, made-of-kept}
 use Rattle.view_top.proofs.timings.timing_of.Goals as goal
+
+pub program_in-requires : goal.program_in-requires
+program_in-requires c = fit c.args.kept.now c.as_slice.result.now c.as_slice.ensures c.requires.kept
 
 pub time_run-requires-clause-run : goal.time_run-requires-clause-run
 time_run-requires-clause-run c =
