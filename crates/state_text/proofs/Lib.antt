@@ -1,2 +1,1 @@
-pub mod Followed
 pub mod Each

@@ -3,4 +3,3 @@ pub mod Because
 pub mod Cores
 pub mod Parts
 pub mod Shown
-pub mod Reached

@@ -3,7 +3,6 @@
 //! Words, code words and locks have the names of the program's text. Every line ends with a newline.
 #![tactic(auto)]
 
-mod answer;
 mod because;
 mod called;
 mod cores;
@@ -12,11 +11,9 @@ mod homes;
 mod keeper;
 mod locks;
 mod mails;
-mod reaching;
 mod showing;
 mod signed;
 mod signing;
 mod tasks;
 
-pub use answer::StateAnswer;
-pub use reaching::state_at;
+pub use showing::shown_text;

@@ -178,9 +178,15 @@ fn push_state(
     push_all_that_may(out, machine.program(), events.as_slice())
 }
 
-/// The text of a machine's state before the event at an index, which may be before the one that was asked for.
+/// The text of a machine's state before the event at an index, from 0, of these events. `asked` is the index that was asked for. Where
+/// `place` is another one, the text says that the event there may not come, so that the one that was asked for isn't reached.
+///
+/// The places must be those of the program's text, from which lines and names are taken. Each part of the state is looked at once.
+///
+/// # Errors
+/// `Memory` if there is no room for the text or for the list of the events that may come.
 #[tactic(auto, unfolding(crate::specs::Shown::shown_text))]
-pub(crate) fn shown(
+pub fn shown_text(
     alloc: Global,
     machine: &Machine,
     places: &Places,

@@ -25,8 +25,8 @@ use Rattle.message_chart.specs.declared.chart.Chart.{Chart}
 use Rattle.message_chart.specs.Picture.{svg_of}
 use Rattle.run_chart.specs.declared.drawing.Range.{Range}
 use Rattle.run_chart.specs.Charts.{IsChartOf}
-use Rattle.state_text.specs.declared.answer.StateAnswer.{StateAnswer}
-use Rattle.state_text.specs.Reached.{IsAnswerOf}
+use Rattle.reached_state.specs.declared.answer.StateAnswer.{StateAnswer}
+use Rattle.reached_state.specs.Reached.{IsAnswerOf}
 use Rattle.page_data.specs.declared.page.Page.{Page}
 use Rattle.page_data.specs.Page.{IsPageOf}
 use Rattle.front_end.specs.Texts.{HasChecked, IsUnfit, usage_line}

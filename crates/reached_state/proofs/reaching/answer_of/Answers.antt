@@ -1,7 +1,7 @@
 use Rattle.std.proofs.Common.{List, subst}
 use Rattle.message_net.specs.declared.event.Event.{Event}
-use Rattle.state_text.specs.Reached.{IsFollowed}
-use Rattle.state_text.proofs.reaching.answer_of.Goals as goal
+use Rattle.reached_state.specs.Reached.{IsFollowed}
+use Rattle.reached_state.proofs.reaching.answer_of.Goals as goal
 
 pub returns : goal.returns
 returns c =

@@ -1,6 +1,6 @@
 use Rattle.std.proofs.Common.{◌≡◌, ◌+◌, ◌<◌, length, Ok, ap, arith}
-use Rattle.state_text.proofs.Followed.{came-some, came-none, one-more-run, one-more-leads, stopped-at, all-came}
-use Rattle.state_text.proofs.reaching.follow.Goals as goal
+use Rattle.reached_state.proofs.Followed.{came-some, came-none, one-more-run, one-more-leads, stopped-at, all-came}
+use Rattle.reached_state.proofs.reaching.follow.Goals as goal
 
 pub loop-event-preserved : goal.loop-event-preserved
 loop-event-preserved c =

@@ -1,15 +1,15 @@
 //! The state before an event of a document.
 ghost use Rattle.std.specs.Prelude.{◌≡◌, ◌≤◌, length, take, IfOk};
 ghost use Rattle.dn_machine.specs.Sizes.{FitsMachine};
-ghost use Rattle.state_text.specs.Reached.{IsFollowed, IsAnswerOf};
 ghost use Rattle.state_text.specs.Shown.{shown_text};
+ghost use Rattle.reached_state.specs.Reached.{IsFollowed, IsAnswerOf};
 
 use crate::answer::StateAnswer;
-use crate::showing::shown;
 use dn_base::{Memory, Shape};
 use dn_machine::{Machine, a_machine_is_kept};
 use effect_checker::Checked;
 use message_net::Event;
+use state_text::shown_text;
 use std::alloc::Global;
 use text_places::Places;
 
@@ -53,7 +53,7 @@ fn answer_of(
 {
     let (before, _) = events.split_at(asked as usize);
     let event = follow(machine, before)?;
-    let text = shown(alloc, machine, places, events, asked, event)?;
+    let text = shown_text(alloc, machine, places, events, asked, event)?;
     Ok(StateAnswer { event, text })
 }
 

@@ -13,7 +13,7 @@ use Rattle.dn_machine.specs.Settings.{IsSettingOf}
 use Rattle.event_reasons.specs.Reasons.{reason_against}
 use Rattle.event_reasons.specs.Holding.{HoldsIn}
 use Rattle.event_reasons.specs.Coming.{enabled_events}
-use Rattle.state_text.specs.declared.answer.StateAnswer.{StateAnswer}
+use Rattle.reached_state.specs.declared.answer.StateAnswer.{StateAnswer}
 use Rattle.state_text.specs.Shown.{shown_text}
 
 -- the state to which the first `count` events lead

@@ -16,9 +16,9 @@ use Rattle.dn_machine.specs.Settings.{IsSettingOf}
 use Rattle.dn_machine.specs.Tried.{IsTried, HasStepped}
 use Rattle.dn_machine.proofs.ScheduleLaws.{after-more}
 use Rattle.text_places.specs.declared.places.Places.{Places}
-use Rattle.state_text.specs.declared.answer.StateAnswer.{StateAnswer}
+use Rattle.reached_state.specs.declared.answer.StateAnswer.{StateAnswer}
 use Rattle.state_text.specs.Shown.{shown_text}
-use Rattle.state_text.specs.Reached.{IsFollowed, IsReasoned, AreListed, IsAnswerOf, state_before}
+use Rattle.reached_state.specs.Reached.{IsFollowed, IsReasoned, AreListed, IsAnswerOf, state_before}
 use Rattle.event_reasons.proofs.Exact.{none-exactly}
 use Rattle.event_reasons.proofs.Held.{stands}
 use Rattle.event_reasons.proofs.Listed.{listed-exactly, in-place}

@@ -1,6 +1,6 @@
 use Rattle.std.proofs.Common.{◌≡◌, take}
 use Rattle.machine_rules.specs.Runs.{after, IsRun}
-use Rattle.state_text.proofs.reaching.follow.Given as goal
+use Rattle.reached_state.proofs.reaching.follow.Given as goal
 
 -- the events so far came one after the other, and lead to the machine's state
 abbrev pub invariant-loop-event : goal.invariant-loop-event

@@ -1,6 +1,6 @@
 use Rattle.std.proofs.Common.{take, refl}
-use Rattle.state_text.proofs.Followed.{answer-of}
-use Rattle.state_text.proofs.reaching.state_at.Goals as goal
+use Rattle.reached_state.proofs.Followed.{answer-of}
+use Rattle.reached_state.proofs.reaching.state_at.Goals as goal
 
 pub returns : goal.returns
 returns c =
