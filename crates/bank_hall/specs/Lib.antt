@@ -1,5 +1,3 @@
-pub mod Stamps
-pub mod Inbox
 pub mod Banks
 pub mod Ports
 pub mod Note

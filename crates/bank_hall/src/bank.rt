@@ -1,11 +1,12 @@
 ghost use Rattle.std.specs.Prelude.{◌≡◌};
 ghost use Rattle.bank_hall.specs.Banks.{bank_steps, bank_call, bank_actor, reply_of};
 
-use crate::posted::{Posted, crosses, has_numbers_left, note, stamp_of, take_picked};
+use crate::row::crosses;
 use dn_base::Memory;
 use grant_log::Stamped;
 use message_net::{Actor, Outgoing};
 use registry_bank::Bank;
+use stamped_mail::{Posted, has_numbers_left, note, stamp_of, take_picked};
 use std::marker::Model;
 use turn_lock::Object;
 

@@ -13,10 +13,10 @@ ghost use Rattle.bank_hall.specs.Closing.{AreAllHallPasses, IsClosedRow, IsToldP
 use crate::bank::{BankActor, BankIn, BankOut, Handled};
 use crate::keeper::{KeeperActor, KeeperHandled, KeeperIn, KeeperOut};
 use crate::port::{Port, PortIn, PortOut};
-use crate::posted::{Posted, crosses};
-use crate::row::{Row, RowPass, take_last};
+use crate::row::{Row, RowPass, crosses, take_last};
 use dn_base::{BankId, CoreId, Gate, Memory};
 use message_net::Actor;
+use stamped_mail::Posted;
 use std::alloc::Global;
 use std::marker::Model;
 use std::sync::Wait;

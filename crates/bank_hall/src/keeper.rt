@@ -3,11 +3,12 @@ ghost use Rattle.bank_hall.specs.Note.{letter_to};
 ghost use Rattle.bank_hall.specs.Keepers.{keeper_steps, keeper_call};
 ghost use Rattle.phase_barrier.specs.Letters.{letter_count};
 
-use crate::posted::{Posted, crosses, has_numbers_left, note, stamp_of, take_picked};
+use crate::row::crosses;
 use dn_base::{CoreId, Memory};
 use grant_log::Stamped;
 use message_net::{Actor, Outgoing};
 use phase_barrier::{Keeper, Verdict};
+use stamped_mail::{Posted, has_numbers_left, note, stamp_of, take_picked};
 use std::marker::Model;
 use turn_lock::Object;
 

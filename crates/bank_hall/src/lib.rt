@@ -10,7 +10,6 @@ mod hall;
 mod keeper;
 mod laws;
 mod port;
-mod posted;
 mod row;
 
 pub use bank::{BankActor, BankIn, BankOut, Handled};
@@ -21,4 +20,3 @@ pub use laws::{
     a_port_loses_no_mail, the_keepers_stamps_rise,
 };
 pub use port::{Port, PortIn, PortOut};
-pub use posted::{Posted, has_numbers_left, stamp_of};

@@ -208,3 +208,6 @@ impl<O: Object> Row<O> {
         Ok((objects, histories))
     }
 }
+
+/// Compiles only if the type may be sent to another thread and shared with it.
+pub(crate) fn crosses<T: Send + Sync>(_value: &T) {}

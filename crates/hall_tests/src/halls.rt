@@ -2,11 +2,12 @@
 ghost use Rattle.std.specs.Prelude.{◌≡◌, ◌≤◌, ◌^◌, [], length, IfOk};
 ghost use Rattle.bank_hall.specs.Halls.{HasActor};
 
-use bank_hall::{BankActor, Hall, HallParts, Handled, KeeperActor, Pass, Port, Posted};
+use bank_hall::{BankActor, Hall, HallParts, Handled, KeeperActor, Pass, Port};
 use dn_base::{BankId, CoreId, Gate, Memory};
 use message_net::Actor;
 use phase_barrier::{Keeper, Verdict};
 use registry_bank::Bank;
+use stamped_mail::Posted;
 use std::alloc::Global;
 use std::marker::Model;
 use std::sync::Wait;

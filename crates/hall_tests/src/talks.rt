@@ -1,10 +1,11 @@
 //! Talks of one caller with a hall of one core, one bank and the keeper. What the hall tells was counted by hand.
 use crate::halls::{Ask, LAST_STAMP, OneHall, Told, Visits};
-use bank_hall::{Handled, Posted};
+use bank_hall::Handled;
 use dn_base::{BankId, CoreId, Memory, WordId};
 use grant_log::Stamped;
 use message_net::{Actor, Event, EventKind, Mail, MailId, Message};
 use phase_barrier::Verdict;
+use stamped_mail::Posted;
 use std::alloc::Global;
 use std::sync::Wait;
 use std::test::Fail;

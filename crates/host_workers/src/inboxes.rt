@@ -5,11 +5,12 @@ ghost use Rattle.message_net.specs.Pool.{AreDistinct};
 ghost use Rattle.round_rules.specs.Rounds.{mail_in};
 ghost use Rattle.host_workers.specs.Inboxes.{inboxes_of, put_at, put_in, AreFirstInboxes, all_mails_in, all_posted, bank_parts, bank_inbox, bank_number, bank_clock, port_mails, AreObjectsOf, AreAtFirst};
 
-use bank_hall::{BankActor, HallParts, KeeperActor, Port, Posted};
+use bank_hall::{BankActor, HallParts, KeeperActor, Port};
 use dn_base::{BankId, CoreId, Memory, Shape};
 use message_net::{Actor, Pool};
 use phase_barrier::Keeper;
 use registry_bank::Bank;
+use stamped_mail::Posted;
 use std::alloc::Global;
 
 /// The inboxes of the cores and of the banks in the order of their numbers, and the keeper's.

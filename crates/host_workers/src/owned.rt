@@ -12,13 +12,13 @@ ghost use Rattle.host_workers.specs.Crews.{held_of, owned_has_numbers, HasRoom};
 ghost use Rattle.host_workers.specs.Deeds.{HasMoved, IsNoted, IsEarly, step_of_deed};
 
 use crate::deeds::{NodeCame, act, receive};
-use bank_hall::{Posted, has_numbers_left, stamp_of};
 use dn_base::{CoreId, Memory};
 use grant_log::Stamped;
 use message_net::{Actor, Event, EventKind, Outgoing};
 use registration_protocol::{Context, Node};
 use round_rules::EndSeen;
 use rv_core::TaskEnd;
+use stamped_mail::{Posted, has_numbers_left, stamp_of};
 
 /// A core that a worker owns: its node, its clock, the number of its next mail, the notes of its events, and the ends of the
 /// tasks with which it arrived.

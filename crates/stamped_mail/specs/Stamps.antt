@@ -5,7 +5,7 @@ use Rattle.message_net.specs.declared.event.Event.TheVariants.{Handle}
 use Rattle.message_net.specs.declared.message.Mail.{Mail}
 use Rattle.message_net.specs.Kind.{kind_of}
 use Rattle.grant_log.specs.declared.log.Stamped.{Stamped}
-use Rattle.bank_hall.specs.declared.posted.Posted.{Posted}
+use Rattle.stamped_mail.specs.declared.posted.Posted.{Posted}
 
 -- a mail that may still be handled
 abbrev pub is_early : Posted → Bool

@@ -1,7 +1,7 @@
 -- An inbox: a list of mails. A mail is put in at its end, and taken out at the index that a pick names.
 use Rattle.std.specs.Prelude.{ℕ, ◌%◌, Bool, List, [], ◌∷◌, ◌++◌, length, slice_get, Option, Some, None, if◌then◌else◌}
 use Rattle.std.specs.List.{swap_remove}
-use Rattle.bank_hall.specs.declared.posted.Posted.{Posted}
+use Rattle.stamped_mail.specs.declared.posted.Posted.{Posted}
 
 -- the inbox once a mail has come
 abbrev pub with_mail : List Posted → Posted → List Posted

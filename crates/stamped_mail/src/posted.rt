@@ -1,6 +1,6 @@
 ghost use Rattle.std.specs.Prelude.{◌≡◌, ◌^◌, ◌<◌, true, IfSome, IfNone, length, slice_get, Some, None, vec_len, vec_capacity};
-ghost use Rattle.bank_hall.specs.Stamps.{has_numbers_left, may_take, stamp_after, handling_note};
-ghost use Rattle.bank_hall.specs.Inbox.{picked_index, picked_out};
+ghost use Rattle.stamped_mail.specs.Stamps.{has_numbers_left, may_take, stamp_after, handling_note};
+ghost use Rattle.stamped_mail.specs.Inbox.{picked_index, picked_out};
 
 use grant_log::Stamped;
 use message_net::{Actor, Event, Mail};
@@ -39,7 +39,7 @@ fn place_of(inbox: &[Posted], pick: u32) -> Option<usize>
 
 /// Takes the mail that the pick names out of the inbox, if there is one, its stamp is below 2^63, and its actor isn't spent.
 /// The last mail moves to its index.
-pub(crate) fn take_picked(inbox: &mut Vec<Posted>, pick: u32, has_numbers: bool) -> Option<Posted>
+pub fn take_picked(inbox: &mut Vec<Posted>, pick: u32, has_numbers: bool) -> Option<Posted>
     ensures mail { result ≡ (picked_out (may_take has_numbers) inbox.old.items pick).0 }
     ensures rest { inbox.new.items ≡ (picked_out (may_take has_numbers) inbox.old.items pick).1 }
     ensures room { IfSome result (λ posted. (has_numbers ≡ true) × (posted.stamp < 2 ^ 63)) }
@@ -65,7 +65,7 @@ pub fn stamp_of(clock: u64, posted: &Posted) -> u64
 }
 
 /// What an actor notes of handling a mail.
-pub(crate) fn note(actor: Actor, stamp: u64, mail: &Mail) -> Stamped
+pub fn note(actor: Actor, stamp: u64, mail: &Mail) -> Stamped
     ensures { result ≡ handling_note actor stamp mail.now }
 {
     Stamped {
@@ -76,6 +76,3 @@ pub(crate) fn note(actor: Actor, stamp: u64, mail: &Mail) -> Stamped
         granted: None,
     }
 }
-
-/// Compiles only if the type may be sent to another thread and shared with it.
-pub(crate) fn crosses<T: Send + Sync>(_value: &T) {}
