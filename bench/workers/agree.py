@@ -1,6 +1,7 @@
 #!/usr/bin/env python3
 """Says whether runs of the program `plain` end as the flat machine does by their grants, which tools/reference.py computes: those
-of the small examples there, of the texts of the mode run in crates/worked_rows/data, and of examples/realistic.s.
+of the small examples there, of the texts of the mode run in crates/worked_rows/data, and of examples/realistic.s. The runs of one thread
+alone have to be those that tools/reference.py makes with the same seed, and give the same answer.
 
     bench/workers/agree.py PLAIN
 """
@@ -49,6 +50,11 @@ def agrees(plain, program, given, workers):
     return end is not None and reference.answer_text(end[0]) == [line for line in out if line.split()[0] not in ("grant", "count")]
 
 
+def is_the_same(plain, text, given):
+    out = subprocess.run([plain, "alone", "1"], input=given, capture_output=True, text=True).stdout.splitlines()
+    return out == reference.answer(["--mode", "run", "--seed", "1"], text)[1]
+
+
 def main(plain):
     done, wrong = 0, 0
     for name, text in texts():
@@ -59,7 +65,11 @@ def main(plain):
             if not agrees(plain, program, given, workers):
                 wrong += 1
                 print("%s by %d workers: another ending" % (name, workers))
-    print("%d runs, %d of which differ from the flat machine" % (done, wrong))
+        done += 1
+        if not is_the_same(plain, text, given):
+            wrong += 1
+            print("%s alone: another answer" % name)
+    print("%d runs, %d of which differ" % (done, wrong))
     return wrong == 0 and done > 0
 
 

@@ -187,6 +187,17 @@ pub enum Event {
     Handle { sender: Actor, number: u32 },
 }
 
+impl Event {
+    /// The place in `KINDS` of a core's own event. That of a handled mail is its message's.
+    pub fn own_kind(&self) -> u8 {
+        match self {
+            Event::Instr | Event::Handle { .. } => 0,
+            Event::Evict(_) => 1,
+            Event::Arrive => 2,
+        }
+    }
+}
+
 #[derive(Clone, Copy)]
 pub struct Grant {
     pub phase: u32,

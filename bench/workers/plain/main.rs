@@ -2,9 +2,12 @@
 //! `Mutex` for each object that they share. It proves nothing; it is what denovo's workers are measured beside.
 //!
 //!     plain WORKERS SEED [histories] < NUMBERS
+//!     plain alone SEED < NUMBERS
 //!
 //! writes what `denovo --workers WORKERS --seed SEED` writes, and to standard error how long the run took, from the checked program to
-//! its ending, in how many rounds and passes. With `histories` each object keeps all its calls, as those of denovo do.
+//! its ending, in how many rounds and passes. With `histories` each object keeps all its calls, as those of denovo do. With `alone` one
+//! thread makes the run, by the same picks as denovo's one worker: it writes exactly what `denovo --seed SEED` writes.
+mod alone;
 mod homes;
 mod mail;
 mod node;
@@ -12,11 +15,12 @@ mod program;
 mod task;
 mod workers;
 
-use crate::homes::Home;
-use crate::mail::{KINDS, Noted};
+use crate::homes::{Bank, Home};
+use crate::mail::{Grant, KINDS};
+use crate::node::Node;
 use crate::program::Program;
 use crate::task::End;
-use crate::workers::{Run, TaskEnd};
+use crate::workers::TaskEnd;
 use std::fmt::Write;
 use std::time::Instant;
 use std::{env, io};
@@ -27,35 +31,31 @@ struct Ending {
     memory: Vec<u32>,
 }
 
-fn word(run: &Run, word: u32) -> u32 {
-    if let Some((value, _)) = run
-        .nodes
+fn word(nodes: &[Node], banks: &[Bank], word: u32) -> u32 {
+    if let Some((value, _)) = nodes
         .iter()
         .filter_map(|node| node.value(word))
         .find(|held| held.1)
     {
         return value;
     }
-    match run.banks[word as usize % run.banks.len()].home(word) {
+    match banks[word as usize % banks.len()].home(word) {
         Home::Here(value) => value,
-        Home::At(core) => run.nodes[core as usize]
-            .value(word)
-            .map_or(0, |held| held.0),
+        Home::At(core) => nodes[core as usize].value(word).map_or(0, |held| held.0),
     }
 }
 
-fn ending(program: &Program, run: &Run) -> Ending {
-    let waiting = run
-        .nodes
+fn ending(program: &Program, nodes: &[Node], banks: &[Bank], ends: &[TaskEnd]) -> Ending {
+    let waiting = nodes
         .iter()
         .filter_map(|node| node.shown())
         .filter(|end| matches!(end.2, End::Waits(_)));
-    let mut tasks: Vec<TaskEnd> = run.ends.iter().copied().chain(waiting).collect();
+    let mut tasks: Vec<TaskEnd> = ends.iter().copied().chain(waiting).collect();
     tasks.sort();
     Ending {
         tasks,
         memory: (0..program.memory.len() as u32)
-            .map(|place| word(run, place))
+            .map(|place| word(nodes, banks, place))
             .collect(),
     }
 }
@@ -82,7 +82,11 @@ fn told(end: &End) -> String {
     }
 }
 
-fn report(ending: &Ending, events: &[Noted]) -> Result<String, std::fmt::Error> {
+fn report(
+    ending: &Ending,
+    grants: impl Iterator<Item = Grant>,
+    counts: &[u64; 17],
+) -> Result<String, std::fmt::Error> {
     let mut text = String::new();
     writeln!(text, "outcome {}", outcome(&ending.tasks))?;
     for (phase, core, end, retired) in &ending.tasks {
@@ -92,34 +96,30 @@ fn report(ending: &Ending, events: &[Noted]) -> Result<String, std::fmt::Error> 
     for (place, value) in ending.memory.iter().enumerate().filter(|word| *word.1 != 0) {
         writeln!(text, "word 0x{:08x} 0x{value:08x}", 0x1000_0000 + 4 * place)?;
     }
-    for grant in events.iter().filter_map(|noted| noted.granted) {
+    for grant in grants {
         writeln!(text, "grant {} {} {}", grant.phase, grant.core, grant.lock)?;
     }
-    writeln!(text, "count events {}", events.len())?;
-    for (kind, name) in KINDS.iter().enumerate() {
-        let count = events
-            .iter()
-            .filter(|noted| usize::from(noted.kind) == kind)
-            .count();
+    writeln!(text, "count events {}", counts.iter().sum::<u64>())?;
+    for (name, count) in KINDS.iter().zip(counts) {
         writeln!(text, "count {name} {count}")?;
     }
     Ok(text)
 }
 
-fn main() {
-    let words: Vec<String> = env::args().skip(1).collect();
-    let number = |place: usize| words.get(place).and_then(|word| word.parse::<u32>().ok());
-    let (Some(workers), Some(seed)) = (number(0), number(1)) else {
-        eprintln!("plain: WORKERS SEED [histories] < NUMBERS");
-        std::process::exit(1);
-    };
-    let text = io::read_to_string(io::stdin()).expect("standard input");
-    let program = Program::read(&text);
+fn run_alone(program: &Program, seed: u32) -> String {
     let begun = Instant::now();
-    let run = workers::run(&program, workers.clamp(1, 16), seed, words.len() > 2);
-    let ending = ending(&program, &run);
-    let taken = begun.elapsed();
-    let micros = taken.as_micros();
+    let run = alone::run(program, seed);
+    let ending = ending(program, &run.nodes, &run.banks, &run.ends);
+    let micros = begun.elapsed().as_micros();
+    eprintln!("events {} micros {micros}", run.log.events.len());
+    report(&ending, run.log.grants.into_iter(), &run.log.counts).expect("a string takes all")
+}
+
+fn run_by_workers(program: &Program, workers: u32, seed: u32, keeps_histories: bool) -> String {
+    let begun = Instant::now();
+    let run = workers::run(program, workers, seed, keeps_histories);
+    let ending = ending(program, &run.nodes, &run.banks, &run.ends);
+    let micros = begun.elapsed().as_micros();
     let passes: Vec<String> = run.passes.iter().map(u64::to_string).collect();
     eprintln!(
         "events {} rounds {} passes {} micros {micros}",
@@ -127,8 +127,29 @@ fn main() {
         run.rounds,
         passes.join("+")
     );
-    print!(
-        "{}",
-        report(&ending, &run.events).expect("a string takes all")
-    );
+    let mut counts = [0; 17];
+    for noted in &run.events {
+        counts[usize::from(noted.kind)] += 1;
+    }
+    let grants = run.events.iter().filter_map(|noted| noted.granted);
+    report(&ending, grants, &counts).expect("a string takes all")
+}
+
+fn main() {
+    let words: Vec<String> = env::args().skip(1).collect();
+    let number = |place: usize| words.get(place).and_then(|word| word.parse::<u32>().ok());
+    let is_alone = words.first().is_some_and(|word| word == "alone");
+    let workers = if is_alone { Some(1) } else { number(0) };
+    let (Some(workers), Some(seed)) = (workers, number(1)) else {
+        eprintln!("plain: WORKERS SEED [histories] < NUMBERS, or plain: alone SEED < NUMBERS");
+        std::process::exit(1);
+    };
+    let text = io::read_to_string(io::stdin()).expect("standard input");
+    let program = Program::read(&text);
+    let told = if is_alone {
+        run_alone(&program, seed)
+    } else {
+        run_by_workers(&program, workers.clamp(1, 16), seed, words.len() > 2)
+    };
+    print!("{told}");
 }

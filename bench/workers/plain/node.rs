@@ -46,13 +46,22 @@ impl Cache {
     }
 
     fn remove(&mut self, word: u32) {
-        self.set_mut(word).retain(|place| place.0 != word);
+        let set = self.set_mut(word);
+        if let Some(at) = set.iter().position(|place| place.0 == word) {
+            set.remove(at);
+        }
     }
 
     /// The word has this entry, and is the most recently used one.
     fn put(&mut self, word: u32, entry: Entry) {
-        self.remove(word);
-        self.set_mut(word).push((word, entry));
+        let set = self.set_mut(word);
+        if let Some(at) = set.iter().position(|place| place.0 == word) {
+            let last = set.len() - 1;
+            set[at..].rotate_left(1);
+            set[last] = (word, entry);
+        } else {
+            set.push((word, entry));
+        }
     }
 
     /// The word has this entry, and its place as before.
@@ -137,53 +146,32 @@ impl<'a> Node<'a> {
         Actor::Bank(word % self.program.banks)
     }
 
-    /// The word that the next instruction loads or stores.
-    fn wanted(&self) -> Option<u32> {
-        match self.next {
-            Some(Need::Load { word } | Need::Store { word, .. }) => Some(word),
-            _ => None,
-        }
-    }
-
-    fn may_retire(&self) -> bool {
-        if matches!(self.wait, Wait::Reading(_) | Wait::Locking(_)) {
-            return false;
-        }
-        match self.next {
-            None => false,
-            Some(Need::Release(_)) => self.pending == 0,
-            Some(Need::Load { word } | Need::Store { word, .. }) => match self.cache.entry(word) {
-                Some(entry) => !matches!(entry, Entry::Leaving { .. }),
-                None => self.cache.has_room(word),
-            },
-            Some(_) => true,
-        }
-    }
-
-    /// The word that has to go so that the wanted one finds a place.
-    fn evicted(&self) -> Option<u32> {
-        let wanted = self.wanted()?;
-        if self.wait != Wait::Nothing
-            || self.cache.entry(wanted).is_some()
-            || self.cache.has_room(wanted)
-        {
-            return None;
-        }
-        self.cache.victim(wanted)
-    }
-
     /// The core's own event, if it has one.
     pub fn own(&self) -> Option<Event> {
         if self.is_halted || self.has_arrived {
             return None;
         }
-        if self.may_retire() {
-            return Some(Event::Instr);
+        if matches!(self.wait, Wait::Reading(_) | Wait::Locking(_)) {
+            return None;
         }
-        if let Some(word) = self.evicted() {
-            return Some(Event::Evict(word));
+        match self.next {
+            None => (self.pending == 0).then_some(Event::Arrive),
+            Some(Need::Release(_)) => (self.pending == 0).then_some(Event::Instr),
+            Some(Need::Load { word } | Need::Store { word, .. }) => self.access(word),
+            Some(_) => Some(Event::Instr),
         }
-        (self.next.is_none() && self.pending == 0).then_some(Event::Arrive)
+    }
+
+    /// What comes next where the next instruction loads or stores the word.
+    fn access(&self, word: u32) -> Option<Event> {
+        let set = self.cache.set(word);
+        match set.iter().find(|place| place.0 == word) {
+            Some((_, Entry::Leaving { .. })) => None,
+            Some(_) => Some(Event::Instr),
+            None if set.len() < self.cache.ways => Some(Event::Instr),
+            None if self.wait != Wait::Nothing => None,
+            None => self.cache.victim(word).map(Event::Evict),
+        }
     }
 
     /// Makes its own event, and tells what is sent.

@@ -172,11 +172,7 @@ impl Owned<'_> {
 
     fn make(&mut self, event: Event) -> Option<Mail> {
         let stamp = self.sender.tick(0);
-        let kind = match event {
-            Event::Evict(_) => 1,
-            Event::Arrive => 2,
-            Event::Instr | Event::Handle { .. } => 0,
-        };
+        let kind = event.own_kind();
         if let Event::Arrive = event {
             self.ends.extend(self.node.shown());
         }
