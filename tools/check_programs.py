@@ -1,6 +1,7 @@
 #!/usr/bin/env python3
 """Checks the programs and their launchers as a user meets them, since no contract reaches a `main`: run it after the gate, as
-.ci/run does, `tools/check_programs.py`. With `--quick` it takes whatever the launchers run, also builds without proof.
+.ci/run does, `tools/check_programs.py`. With `--quick` it takes whatever the launchers run, also builds without proof. With `--times`
+it says how long each part takes.
 
 It looks that the command words are handed on, that each exit code from 0 to 7 comes out, and 9 for words that aren't UTF-8, that a
 run goes by a pipe into its picture, its account, its states and its page, that all are those of tools/reference.py, that explained
@@ -9,6 +10,7 @@ tutorial and the documents on accounts, states and pages show what their command
 exercises and at the heads of examples are those of runs, and that the proved programs are used exactly where they were made of these
 sources. What a run has to write comes from tools/reference.py. It names each check that fails, and ends with a count."""
 import importlib.util
+import multiprocessing
 import os
 import pathlib
 import re
@@ -16,6 +18,7 @@ import shutil
 import subprocess
 import sys
 import tempfile
+import time
 
 top = pathlib.Path(__file__).resolve().parent.parent
 os.chdir(top)
@@ -743,32 +746,52 @@ def the_page_on_accounts_has_the_numbers():
     check("docs/ACCOUNT.md: what each measure counts", sorted(measures) == sorted(reference.MEASURES), set(measures) ^ set(reference.MEASURES))
 
 
-words_are_handed_on()
-stored_runs()
-every_exit_code_comes()
-a_run_is_drawn_by_a_pipe()
-a_chart_begins_at_an_event()
-each_mode_has_its_own_options()
-accounts_are_those_of_the_reference()
-states_are_those_of_the_reference()
-pages_are_those_of_the_reference()
-answers_are_explained()
-answers_of_other_texts_are_refused()
-answers_before_any_text_are_taken()
-every_exit_code_of_explain_comes()
-claims_of_runs_agree()
-claims_are_judged()
-claims_are_refused()
-the_largest_claims_are_read()
-another_simulator_is_compared()
-standard_error_helps()
-pages_show_what_is_printed()
-the_first_page_shows_a_whole_answer()
-every_command_of_the_exercises_answers()
-the_answers_to_exercises_have_the_numbers()
-heads_of_examples_say_what_is_printed()
-the_page_on_accounts_has_the_numbers()
+# Each part runs in a process of its own, as many at once as there are processors: those that take longest begin first.
+PARTS = [
+    pages_are_those_of_the_reference,
+    states_are_those_of_the_reference,
+    accounts_are_those_of_the_reference,
+    claims_of_runs_agree,
+    claims_are_judged,
+    claims_are_refused,
+    answers_are_explained,
+    answers_of_other_texts_are_refused,
+    answers_before_any_text_are_taken,
+    another_simulator_is_compared,
+    the_largest_claims_are_read,
+    each_mode_has_its_own_options,
+    words_are_handed_on,
+    stored_runs,
+    every_exit_code_comes,
+    every_exit_code_of_explain_comes,
+    a_run_is_drawn_by_a_pipe,
+    a_chart_begins_at_an_event,
+    standard_error_helps,
+    pages_show_what_is_printed,
+    the_first_page_shows_a_whole_answer,
+    every_command_of_the_exercises_answers,
+    the_answers_to_exercises_have_the_numbers,
+    heads_of_examples_say_what_is_printed,
+    the_page_on_accounts_has_the_numbers,
+]
 if kind == "proved":
-    proved_programs_are_used_where_they_are_those_of_the_sources()
+    PARTS.append(proved_programs_are_used_where_they_are_those_of_the_sources)
+
+
+def counted(part):
+    """Runs a part, and gives how many of its checks passed and failed. What failed is printed at once."""
+    global passed, failed
+    passed, failed = 0, 0
+    begun = time.monotonic()
+    part()
+    sys.stdout.flush()
+    return part.__name__, passed, failed, time.monotonic() - begun
+
+
+with multiprocessing.get_context("fork").Pool() as pool:
+    for name, *counts, seconds in pool.imap_unordered(counted, PARTS, chunksize=1):
+        passed, failed = passed + counts[0], failed + counts[1]
+        if "--times" in sys.argv[1:]:
+            print(f"programs: {name}: {sum(counts)} checks, {seconds:.1f} s")
 print(f"programs: {passed} passed, {failed} failed")
 sys.exit(1 if failed else 0)
