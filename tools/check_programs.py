@@ -9,6 +9,7 @@ answers are those of tools/explained.txt, that claims are judged as tools/refere
 tutorial and the documents on accounts, states and pages show what their commands print, that the numbers of accounts, of answers to
 exercises and at the heads of examples are those of runs, and that the proved programs are used exactly where they were made of these
 sources. What a run has to write comes from tools/reference.py. It names each check that fails, and ends with a count."""
+import functools
 import importlib.util
 import multiprocessing
 import os
@@ -225,13 +226,14 @@ def pages_are_those_of_the_reference():
     for example, words in runs if kind == "proved" else runs[:3]:
         document = run(denovo + ["--mode", "trace"] + words, text_of(example)).stdout
         last = int(re.search(rb"^events (\d+)$", document, re.M)[1]) - 1
-        for view in programs("view"):
-            for first, rows, ticks in ((0, 4096, (1, 10, 5)), (last // 2, 7, (1, 10, 5)), (last, 20000, (1, 10, 5)), (3, 2, (7, 1, 300))):
-                given = ["--first", str(first), "--rows", str(rows), "--tick-core", str(ticks[0]), "--tick-bank", str(ticks[1]), "--tick-mail", str(ticks[2])]
-                wanted = reference.page(document, "", first, rows, reference.ticks_by(*ticks))[1].encode()
+        for first, rows, ticks in ((0, 4096, (1, 10, 5)), (last // 2, 7, (1, 10, 5)), (last, 20000, (1, 10, 5)), (3, 2, (7, 1, 300))):
+            given = ["--first", str(first), "--rows", str(rows), "--tick-core", str(ticks[0]), "--tick-bank", str(ticks[1]), "--tick-mail", str(ticks[2])]
+            wanted = reference.page(document, "", first, rows, reference.ticks_by(*ticks))[1].encode()
+            for view in programs("view"):
                 ran = run(view + ["--mode", "page"] + given, document)
                 check(f"{view[0]}: the page of {example} {' '.join(words + given)}", (ran.returncode, ran.stdout) == (0, page_with(view, wanted)), ran.returncode)
-            wanted = reference.page(document, "", 0, 4096, reference.ticks_by(1, 10, 5))[1].encode()
+        wanted = reference.page(document, "", 0, 4096, reference.ticks_by(1, 10, 5))[1].encode()
+        for view in programs("view"):
             ran = run(view + ["--mode", "page"], document)
             check(f"{view[0]}: the page of {example} {' '.join(words)}", (ran.returncode, ran.stdout) == (0, page_with(view, wanted)), ran.returncode)
             ran = run(view + ["--mode", "page", "--first", str(last + 1)], document)
@@ -316,6 +318,7 @@ def claim_of_run(program, seed, text):
     return reference.claim_text(text, 32768, grants, loads, answer)
 
 
+@functools.lru_cache(16)
 def verdict(claim):
     """The exit code and the bytes that tools/reference.py says of a claim, whose text has a program."""
     status, lines = reference.judged(claim)
