@@ -37,6 +37,13 @@ pub struct Log {
     pub ends: Sequence<Option<TaskEnd>>,
 }
 
+/// No events, with room for the first ones.
+fn no_events(alloc: Global) -> Result<Sequence<Event>, Memory>
+    ensures { IfOk result (λ events. events ≡ []) }
+{
+    Ok(Sequence::from_vec(Vec::with_capacity(alloc, FIRST_EVENTS)?))
+}
+
 /// A table without ends, for this many phases.
 fn no_ends(alloc: Global, phases: usize) -> Result<Sequence<Option<TaskEnd>>, Memory>
     requires { phases ≤ 64 }
@@ -68,11 +75,13 @@ impl Log {
         requires { phases ≤ 64 }
         ensures { IfOk result (λ log. log ≡ no_log phases) }
     {
+        let events = no_events(alloc)?;
+        let ends = no_ends(alloc, phases)?;
         Ok(Log {
-            events: Sequence::from_vec(Vec::with_capacity(alloc, FIRST_EVENTS)?),
+            events,
             grants: Sequence::new(alloc),
             counts: Counts::none(),
-            ends: no_ends(alloc, phases)?,
+            ends,
         })
     }
 
@@ -177,6 +186,24 @@ fn push_ends(
     Ok(())
 }
 
+/// Adds the noted ends of the tasks of the first phases to no ends, in the order of phases and cores.
+fn push_all_ends(
+    out: &mut Sequence<TaskEnd>,
+    table: &[Option<TaskEnd>],
+    phases: &[Phase],
+) -> Result<(), Memory>
+    requires none { out.old ≡ [] }
+    requires most { length phases.now ≤ 64 }
+    ensures { OnOk result (out.new ≡ noted_ends table.now 0 phases.now) }
+{
+    let mut number = 0;
+    for phase in phases {
+        push_ends(out, table, number, phase.tasks.as_slice())?;
+        number += 1;
+    }
+    Ok(())
+}
+
 /// The noted ends of the tasks of the first phases, in the order of phases and cores.
 pub(crate) fn listed_ends(
     alloc: Global,
@@ -187,10 +214,6 @@ pub(crate) fn listed_ends(
     ensures { IfOk result (λ ends. ends ≡ noted_ends table.now 0 phases.now) }
 {
     let mut ends = Sequence::new(alloc);
-    let mut number = 0;
-    for phase in phases {
-        push_ends(&mut ends, table, number, phase.tasks.as_slice())?;
-        number += 1;
-    }
+    push_all_ends(&mut ends, table, phases)?;
     Ok(ends)
 }

@@ -1,11 +1,18 @@
-ghost use Rattle.std.specs.Prelude.{◌≡◌, ◌↔◌, ◌+◌, ◌<◌, true, OnOk, OnErr, IfOk, IfSome, None, slice_get};
+ghost use Rattle.std.specs.Prelude.{◌≡◌, ◌↔◌, ◌+◌, ◌<◌, ◌≤◌, true, OnOk, OnErr, IfOk, IfSome, None, slice_get};
+ghost use Rattle.region_table.specs.Program.{IsProgram};
+ghost use Rattle.effect_checker.specs.Checked.{IsChecked};
+ghost use Rattle.registration_protocol.specs.Fit.{IsContext};
+ghost use Rattle.registration_protocol.specs.Node.{Setting};
 ghost use Rattle.registration_protocol.specs.Setting.{setting};
+ghost use Rattle.machine_rules.specs.State.{initial_state};
 ghost use Rattle.machine_rules.specs.Memory.{word_value};
 ghost use Rattle.machine_rules.specs.Next.{next, enabled, observed};
 ghost use Rattle.machine_rules.specs.Runs.{IsOver};
+ghost use Rattle.dn_machine.specs.Content.{state_of, KnowsOwn};
 ghost use Rattle.dn_machine.specs.Ends.{end_at};
 ghost use Rattle.dn_machine.specs.Kept.{IsKept, IsInitialMachine};
 ghost use Rattle.dn_machine.specs.Pick.{pick};
+ghost use Rattle.dn_machine.specs.Plans.{AreInOneForm};
 ghost use Rattle.dn_machine.specs.Run.{IsSeedsRunOf};
 ghost use Rattle.dn_machine.specs.Sizes.{FitsMachine};
 
@@ -68,6 +75,27 @@ pub(crate) fn context_of<'a>(
     }
 }
 
+/// What changes in a machine of this decoded program and these plans, when a run begins.
+fn opened(
+    alloc: Global,
+    decoded: &DecodedProgram,
+    plans: &Vec<PhasePlan>,
+    shape: Shape,
+    fuel: u32,
+) -> Result<Content, Memory>
+    requires context { IsContext (record { program = decoded.now; plans = plans.now.items; shape = shape; fuel = fuel }) }
+    requires program { IsProgram decoded.now }
+    requires checked { IsChecked decoded.now }
+    requires some { 1 ≤ shape.cores }
+    requires most { shape.cores ≤ 16 }
+    ensures state { IfOk result (λ content. let C : Setting = record { program = decoded.now; plans = plans.now.items; shape = shape; fuel = fuel } in
+        state_of C content ≡ initial_state C) }
+    ensures known { IfOk result (KnowsOwn (record { program = decoded.now; plans = plans.now.items; shape = shape; fuel = fuel })) }
+{
+    let context = context_of(decoded, plans, shape, fuel);
+    initial_content(alloc, &context)
+}
+
 impl Machine {
     /// The machine of a checked program when a run begins: each node is in the first phase, the banks hold the initial memory,
     /// and no mail is in flight. The shape must have as many cores as the program needs, 1 to 16 banks, 1 to 256 sets and 1 to
@@ -92,8 +120,29 @@ impl Machine {
         // for the proof alone: the plans are in one form, which the clause says of them
         plans_have_one_form(plans.as_slice());
         let decoded = DecodedProgram::new(alloc, checked.into_program())?;
-        let context = context_of(&decoded, &plans, shape, fuel);
-        let content = initial_content(alloc, &context)?;
+        Machine::of_decoded(alloc, decoded, plans, shape, fuel)
+    }
+
+    /// The machine of a decoded program and the plans of its phases when a run begins.
+    ///
+    /// # Errors
+    /// `Memory` if there is no room.
+    fn of_decoded(
+        alloc: Global,
+        decoded: DecodedProgram,
+        plans: Vec<PhasePlan>,
+        shape: Shape,
+        fuel: u32,
+    ) -> Result<Machine, Memory>
+        requires context { IsContext (record { program = decoded; plans = plans.items; shape = shape; fuel = fuel }) }
+        requires program { IsProgram decoded }
+        requires checked { IsChecked decoded }
+        requires some { 1 ≤ shape.cores }
+        requires most { shape.cores ≤ 16 }
+        requires one_form { AreInOneForm plans.items }
+        ensures { IfOk result (IsInitialMachine decoded shape fuel) }
+    {
+        let content = opened(alloc, &decoded, &plans, shape, fuel)?;
         Ok(Machine {
             decoded,
             plans,

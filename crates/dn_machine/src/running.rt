@@ -7,7 +7,9 @@ ghost use Rattle.grant_log.specs.Counts.{kind_count};
 ghost use Rattle.message_net.specs.Pool.{AreDistinct};
 ghost use Rattle.registration_protocol.specs.Node.{Setting};
 ghost use Rattle.registration_protocol.specs.Setting.{setting};
+ghost use Rattle.rv_core.specs.Ending.{ending_of};
 ghost use Rattle.machine_rules.specs.State.{initial_state};
+ghost use Rattle.machine_rules.specs.Memory.{memory_of};
 ghost use Rattle.machine_rules.specs.Next.{enabled};
 ghost use Rattle.machine_rules.specs.Sound.{IsMachine};
 ghost use Rattle.dn_machine.specs.Content.{state_of, KnowsOwn, IsWhole};
@@ -266,6 +268,24 @@ impl Content {
         Ok(())
     }
 
+    /// The ending with these ends of tasks and the words of this state.
+    fn ending_with(
+        &self,
+        alloc: Global,
+        context: &Context<'_>,
+        tasks: Sequence<TaskEnd>,
+    ) -> Result<Ending, Memory>
+        requires banks { 0 < (setting context.now).shape.banks }
+        ensures { IfOk result (λ ending. ending ≡ ending_of tasks (memory_of (state_of (setting context.now) self.now))) }
+    {
+        let memory = self.memory(alloc, context)?;
+        Ok(Ending {
+            outcome: outcome(tasks.as_slice()),
+            tasks,
+            memory: Sequence::from_vec(memory),
+        })
+    }
+
     /// The ending of a run, from its last state and the noted ends.
     ///
     /// # Errors
@@ -283,13 +303,51 @@ impl Content {
         let phases = program.phases.as_slice();
         let begun = (self.keeper.phase().0 as usize + 1).min(phases.len());
         let tasks = listed_ends(alloc, ends.as_slice(), &phases[..begun])?;
-        let memory = self.memory(alloc, context)?;
-        Ok(Ending {
-            outcome: outcome(tasks.as_slice()),
-            tasks,
-            memory: Sequence::from_vec(memory),
-        })
+        self.ending_with(alloc, context, tasks)
     }
+
+    /// Makes and notes the events that the words of a seed pick, until none may come, and gives the ending of that run.
+    ///
+    /// # Errors
+    /// `Memory` where there is no room for the mails, the log or the ending.
+    fn run_to_end(
+        &mut self,
+        alloc: Global,
+        context: &Context<'_>,
+        seed: u32,
+        log: &mut Log,
+    ) -> Result<Ending, Memory>
+        requires initial { state_of (setting context.now) self.old ≡ initial_state (setting context.now) }
+        requires kept { IsKept (state_of (setting context.now) self.old) 0 }
+        requires known { KnowsOwn (setting context.now) self.old }
+        requires empty { log.old ≡ no_log (length (setting context.now).program.phases) }
+        ensures run { OnOk result (HasRun (initial_state (setting context.now)) seed (state_of (setting context.now) self.new) log.new) }
+        ensures ending { IfOk result (λ ending. ending ≡ noted_ending log.new.ends (state_of (setting context.now) self.new)) }
+    {
+        self.run(context, seed, log)?;
+        self.ending(alloc, context, &log.ends)
+    }
+}
+
+/// The record of the run of a seed, from the initial machine, whose content is lent.
+///
+/// # Errors
+/// `Memory` where there is no room for the mails or the record.
+fn run_lent(
+    alloc: Global,
+    context: &Context<'_>,
+    content: &mut Content,
+    seed: u32,
+) -> Result<RunRecord, Memory>
+    requires initial { state_of (setting context.now) content.old ≡ initial_state (setting context.now) }
+    requires kept { IsKept (state_of (setting context.now) content.old) 0 }
+    requires known { KnowsOwn (setting context.now) content.old }
+    ensures { IfOk result (IsSeedsRunOf (initial_state (setting context.now)) seed) }
+{
+    let program = context.decoded.program();
+    let mut log = Log::new(alloc, program.phases.len())?;
+    let ending = content.run_to_end(alloc, context, seed, &mut log)?;
+    Ok(log.record(ending))
 }
 
 /// The record of the run of a seed, from the initial machine.
@@ -308,9 +366,5 @@ pub(crate) fn run_from_start(
     ensures { IfOk result (IsSeedsRunOf (initial_state (setting context.now)) seed) }
 {
     let mut content = content;
-    let program = context.decoded.program();
-    let mut log = Log::new(alloc, program.phases.len())?;
-    content.run(context, seed, &mut log)?;
-    let ending = content.ending(alloc, context, &log.ends)?;
-    Ok(log.record(ending))
+    run_lent(alloc, context, &mut content, seed)
 }

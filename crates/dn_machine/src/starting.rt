@@ -1,4 +1,4 @@
-ghost use Rattle.std.specs.Prelude.{◌≡◌, ◌+◌, ◌<◌, ◌≤◌, ℕ, map, replicate, length, slice_get, Some, IfOk};
+ghost use Rattle.std.specs.Prelude.{◌≡◌, ◌+◌, ◌<◌, ◌≤◌, ℕ, [], ◌∷◌, ◌++◌, map, replicate, length, slice_get, Some, IfOk, OnOk};
 ghost use Rattle.std.specs.List.{range_with_len};
 ghost use Rattle.region_table.specs.Program.{IsProgram};
 ghost use Rattle.registry_bank.specs.Bank.{initial_bank};
@@ -21,16 +21,84 @@ use registration_protocol::{Context, Node};
 use registry_bank::Bank;
 use std::alloc::Global;
 
+/// Adds the node of a core, as it is when a run begins.
+fn push_node(
+    nodes: &mut Vec<Node>,
+    alloc: Global,
+    core: CoreId,
+    context: &Context<'_>,
+) -> Result<(), Memory>
+    requires context { IsContext (setting context.now) }
+    requires core { core.0 < (setting context.now).shape.cores }
+    ensures { OnOk result (nodes.new.items ≡ nodes.old.items ++ initial_node (setting context.now) core.0 ∷ []) }
+{
+    nodes.push(Node::new(alloc, core, context)?)?;
+    Ok(())
+}
+
+/// Adds the node of each core to no nodes.
+fn push_nodes(nodes: &mut Vec<Node>, alloc: Global, context: &Context<'_>) -> Result<(), Memory>
+    requires context { IsContext (setting context.now) }
+    requires none { nodes.old.items ≡ [] }
+    ensures { OnOk result (nodes.new.items ≡ map (initial_node (setting context.now)) (range_with_len 0 (setting context.now).shape.cores)) }
+{
+    for core in 0..context.shape.cores {
+        push_node(nodes, alloc, CoreId(core), context)?;
+    }
+    Ok(())
+}
+
 /// The nodes when a run begins, in the order of their cores.
 pub(crate) fn new_nodes(alloc: Global, context: &Context<'_>) -> Result<Vec<Node>, Memory>
     requires { IsContext (setting context.now) }
     ensures { IfOk result (λ nodes. nodes.items ≡ map (initial_node (setting context.now)) (range_with_len 0 (setting context.now).shape.cores)) }
 {
     let mut nodes = Vec::new(alloc);
-    for core in 0..context.shape.cores {
-        nodes.push(Node::new(alloc, CoreId(core), context)?)?;
-    }
+    push_nodes(&mut nodes, alloc, context)?;
     Ok(nodes)
+}
+
+/// Adds the bank of this number, as it is when a run begins.
+fn push_bank(
+    banks: &mut Vec<Bank>,
+    alloc: Global,
+    bank: BankId,
+    shape: Shape,
+    memory: &[u32],
+    locks: u32,
+) -> Result<(), Memory>
+    requires bank { bank.0 < shape.banks }
+    requires banks { shape.banks ≤ 16 }
+    requires some { 1 ≤ shape.cores }
+    requires cores { shape.cores ≤ 16 }
+    requires memory { length memory.now ≤ 65536 }
+    requires locks { locks ≤ 32 }
+    ensures { OnOk result (banks.new.items ≡ banks.old.items ++ initial_bank bank.0 shape.banks shape.cores memory.now locks ∷ []) }
+{
+    banks.push(Bank::new(alloc, bank, shape.banks, shape.cores, memory, locks)?)?;
+    Ok(())
+}
+
+/// Adds each bank to no banks.
+fn push_banks(
+    banks: &mut Vec<Bank>,
+    alloc: Global,
+    shape: Shape,
+    memory: &[u32],
+    locks: u32,
+) -> Result<(), Memory>
+    requires none { banks.old.items ≡ [] }
+    requires banks { shape.banks ≤ 16 }
+    requires some { 1 ≤ shape.cores }
+    requires cores { shape.cores ≤ 16 }
+    requires memory { length memory.now ≤ 65536 }
+    requires locks { locks ≤ 32 }
+    ensures { OnOk result (banks.new.items ≡ map (λ (bank : ℕ). initial_bank bank shape.banks shape.cores memory.now locks) (range_with_len 0 shape.banks)) }
+{
+    for bank in 0..shape.banks {
+        push_bank(banks, alloc, BankId(bank), shape, memory, locks)?;
+    }
+    Ok(())
 }
 
 /// The banks when a run begins, in the order of their numbers, with this initial memory and this many locks in all.
@@ -48,9 +116,7 @@ pub(crate) fn new_banks(
     ensures { IfOk result (λ banks. banks.items ≡ map (λ (bank : ℕ). initial_bank bank shape.banks shape.cores memory.now locks) (range_with_len 0 shape.banks)) }
 {
     let mut banks = Vec::new(alloc);
-    for bank in 0..shape.banks {
-        banks.push(Bank::new(alloc, BankId(bank), shape.banks, shape.cores, memory, locks)?)?;
-    }
+    push_banks(&mut banks, alloc, shape, memory, locks)?;
     Ok(banks)
 }
 
@@ -103,21 +169,25 @@ pub(crate) fn own_events(nodes: &[Node], context: &Context<'_>) -> OwnRow
     OwnRow::new(own)
 }
 
-/// What changes in a machine, when a run begins.
-pub(crate) fn initial_content(alloc: Global, context: &Context<'_>) -> Result<Content, Memory>
+/// What changes in a machine with these nodes and banks, when a run begins.
+fn content_with_banks(
+    alloc: Global,
+    context: &Context<'_>,
+    nodes: Vec<Node>,
+    banks: Vec<Bank>,
+) -> Result<Content, Memory>
     requires context { IsContext (setting context.now) }
     requires program { IsProgram (setting context.now).program }
     requires checked { IsChecked (setting context.now).program }
     requires some { 1 ≤ (setting context.now).shape.cores }
     requires most { (setting context.now).shape.cores ≤ 16 }
+    requires nodes { nodes.items ≡ map (initial_node (setting context.now)) (range_with_len 0 (setting context.now).shape.cores) }
+    requires banks { banks.items ≡ map (λ (bank : ℕ). initial_bank bank (setting context.now).shape.banks (setting context.now).shape.cores (setting context.now).program.memory (length (setting context.now).program.locks)) (range_with_len 0 (setting context.now).shape.banks) }
     ensures state { IfOk result (λ content. state_of (setting context.now) content ≡ initial_state (setting context.now)) }
     ensures known { IfOk result (KnowsOwn (setting context.now)) }
 {
     let shape = context.shape;
-    let program = context.decoded.program();
-    let nodes = new_nodes(alloc, context)?;
-    let banks = new_banks(alloc, shape, memory_of(program), locks_of(program))?;
-    let keeper = Keeper::new(shape.cores, phases_of(program));
+    let keeper = Keeper::new(shape.cores, phases_of(context.decoded.program()));
     let own = own_events(nodes.as_slice(), context);
     let numbers = zeros(alloc, shape.cores + shape.banks + 1)?;
     Ok(Content {
@@ -128,4 +198,38 @@ pub(crate) fn initial_content(alloc: Global, context: &Context<'_>) -> Result<Co
         numbers,
         own,
     })
+}
+
+/// What changes in a machine with these nodes, when a run begins.
+fn content_with_nodes(
+    alloc: Global,
+    context: &Context<'_>,
+    nodes: Vec<Node>,
+) -> Result<Content, Memory>
+    requires context { IsContext (setting context.now) }
+    requires program { IsProgram (setting context.now).program }
+    requires checked { IsChecked (setting context.now).program }
+    requires some { 1 ≤ (setting context.now).shape.cores }
+    requires most { (setting context.now).shape.cores ≤ 16 }
+    requires nodes { nodes.items ≡ map (initial_node (setting context.now)) (range_with_len 0 (setting context.now).shape.cores) }
+    ensures state { IfOk result (λ content. state_of (setting context.now) content ≡ initial_state (setting context.now)) }
+    ensures known { IfOk result (KnowsOwn (setting context.now)) }
+{
+    let program = context.decoded.program();
+    let banks = new_banks(alloc, context.shape, memory_of(program), locks_of(program))?;
+    content_with_banks(alloc, context, nodes, banks)
+}
+
+/// What changes in a machine, when a run begins.
+pub(crate) fn initial_content(alloc: Global, context: &Context<'_>) -> Result<Content, Memory>
+    requires context { IsContext (setting context.now) }
+    requires program { IsProgram (setting context.now).program }
+    requires checked { IsChecked (setting context.now).program }
+    requires some { 1 ≤ (setting context.now).shape.cores }
+    requires most { (setting context.now).shape.cores ≤ 16 }
+    ensures state { IfOk result (λ content. state_of (setting context.now) content ≡ initial_state (setting context.now)) }
+    ensures known { IfOk result (KnowsOwn (setting context.now)) }
+{
+    let nodes = new_nodes(alloc, context)?;
+    content_with_nodes(alloc, context, nodes)
 }

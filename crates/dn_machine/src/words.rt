@@ -1,4 +1,4 @@
-ghost use Rattle.std.specs.Prelude.{◌≡◌, ◌<◌, IfOk, slice_get};
+ghost use Rattle.std.specs.Prelude.{◌≡◌, ◌<◌, [], IfOk, OnOk, slice_get};
 ghost use Rattle.registration_protocol.specs.Setting.{setting};
 ghost use Rattle.registration_protocol.specs.Node.{entry_of};
 ghost use Rattle.machine_rules.specs.State.{entry_in, home_at};
@@ -60,19 +60,27 @@ fn value_at(nodes: &[Node], core: CoreId, word: WordId) -> u32
 }
 
 impl Content {
+    /// What the home of a word holds for it; None where there is nothing.
+    fn home(&self, context: &Context<'_>, word: WordId) -> Option<BankWord>
+        requires banks { 0 < (setting context.now).shape.banks }
+        ensures { result ≡ home_at (state_of (setting context.now) self.now) word.0 }
+    {
+        let place = remainder(word.0, context.shape.banks);
+        match self.banks.as_slice().get(place as usize) {
+            Some(bank) => bank.word(word),
+            None => None,
+        }
+    }
+
     /// The value that the home of a word holds, or that its registrant's entry has.
     fn kept_value(&self, context: &Context<'_>, word: WordId) -> u32
         requires banks { 0 < (setting context.now).shape.banks }
         ensures { result ≡ kept_value (state_of (setting context.now) self.now) word.0 (home_at (state_of (setting context.now) self.now) word.0) }
     {
-        let place = remainder(word.0, context.shape.banks);
-        match self.banks.as_slice().get(place as usize) {
+        match self.home(context, word) {
             None => 0,
-            Some(bank) => match bank.word(word) {
-                None => 0,
-                Some(BankWord::Home(value)) => value,
-                Some(BankWord::Reg(core)) => value_at(self.nodes.as_slice(), core, word),
-            },
+            Some(BankWord::Home(value)) => value,
+            Some(BankWord::Reg(core)) => value_at(self.nodes.as_slice(), core, word),
         }
     }
 
@@ -88,6 +96,20 @@ impl Content {
         }
     }
 
+    /// Adds all data words to no words.
+    fn push_words(&self, context: &Context<'_>, out: &mut Vec<u32>) -> Result<(), Memory>
+        requires none { out.old.items ≡ [] }
+        requires banks { 0 < (setting context.now).shape.banks }
+        ensures { OnOk result (out.new.items ≡ memory_of (state_of (setting context.now) self.now)) }
+    {
+        let program = context.decoded.program();
+        let words = program.memory.len() as u32;
+        for word in 0..words {
+            out.push(self.word(context, WordId(word)))?;
+        }
+        Ok(())
+    }
+
     /// All data words.
     ///
     /// # Errors
@@ -96,12 +118,8 @@ impl Content {
         requires banks { 0 < (setting context.now).shape.banks }
         ensures { IfOk result (λ memory. memory.items ≡ memory_of (state_of (setting context.now) self.now)) }
     {
-        let program = context.decoded.program();
-        let words = program.memory.len() as u32;
         let mut memory = Vec::new(alloc);
-        for word in 0..words {
-            memory.push(self.word(context, WordId(word)))?;
-        }
+        self.push_words(context, &mut memory)?;
         Ok(memory)
     }
 }

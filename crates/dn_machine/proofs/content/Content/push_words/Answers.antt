@@ -3,7 +3,7 @@ use Rattle.std.proofs.lemmas.List.FromFn.{map-range_with_len_more}
 use Rattle.registration_protocol.specs.Setting.{setting}
 use Rattle.machine_rules.specs.Memory.{word_value}
 use Rattle.dn_machine.specs.Content.{state_of}
-use Rattle.dn_machine.proofs.content.Content.memory.Goals as goal
+use Rattle.dn_machine.proofs.content.Content.push_words.Goals as goal
 
 pub loop-word-preserved : goal.loop-word-preserved
 loop-word-preserved c =

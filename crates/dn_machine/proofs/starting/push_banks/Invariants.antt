@@ -1,7 +1,7 @@
 use Rattle.std.proofs.Common.{◌≡◌, ◌≤◌, ℕ, map}
 use Rattle.std.specs.List.{range_with_len}
 use Rattle.registry_bank.specs.Bank.{initial_bank}
-use Rattle.dn_machine.proofs.starting.new_banks.Given as goal
+use Rattle.dn_machine.proofs.starting.push_banks.Given as goal
 
 abbrev pub invariant-loop-bank : goal.invariant-loop-bank
 invariant-loop-bank l =
