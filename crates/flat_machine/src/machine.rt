@@ -1,17 +1,17 @@
-ghost use Rattle.std.specs.Prelude.{◌≡◌, ◌≤◌, ◌<◌, ℕ, ◌+◌, ◌*◌, ◌++◌, ◌&&◌, true, false, None, Some, length, drop, map, sum_by, slice_get, option_copied, IfOk, IfSome, IfNone, position};
+ghost use Rattle.std.specs.Prelude.{◌≡◌, ◌≤◌, ◌<◌, ℕ, ◌+◌, ◌*◌, [], ◌++◌, ◌&&◌, true, false, None, Some, length, drop, map, sum_by, slice_get, option_copied, IfOk, IfSome, IfNone, position};
 ghost use Rattle.std.specs.List.{All, HoldsAt, list_any, list_all};
 ghost use Rattle.rv_core.specs.Access.{is_held};
 ghost use Rattle.rv_core.specs.Decoded.{IsDecoded};
 ghost use Rattle.flat_machine.specs.Step.{At, Started, segment, in_state, room, IsWithin, WantsLock};
 ghost use Rattle.flat_machine.specs.Phases.{Flat, Ran, run_all, begin, has_finished, next_phase, settled, initial_flat, initial, work, IsSoundFlat};
 ghost use Rattle.flat_machine.specs.Grants.{is_free, grant_by, grant_for, is_grant, can_take, first_grant, next_grant, resumed, granted, grants_from, IsStoppedAt, IsLeastFrom};
-ghost use Rattle.flat_machine.specs.Ending.{flat_end_of};
+ghost use Rattle.flat_machine.specs.Ending.{flat_end_of, flat_ends_of, task_loads};
 
-use crate::ending::{FlatEnd, push_ends, push_loads};
+use crate::ending::{FlatEnd, TaskLoads, push_ends, push_loads};
 use crate::running::{Running, start};
 use dn_base::{Grant, LockId, Memory, PhaseId, Sequence};
 use region_table::{Phase, Program, TaskDecl};
-use rv_core::{DecodedCode, Ending, Need, outcome};
+use rv_core::{DecodedCode, Ending, Need, TaskEnd, outcome};
 use std::alloc::Global;
 use std::marker::Model;
 
@@ -149,6 +149,20 @@ fn first_grant(program: &Program, fuel: u32, tasks: &[Running<'_>]) -> Option<Gr
         }
     }
     None
+}
+
+/// The loads of these tasks: of those of the earlier phases, and then of those of the last one.
+fn all_loads(
+    alloc: Global,
+    past: Vec<Running<'_>>,
+    last: Vec<Running<'_>>,
+) -> Result<Sequence<TaskLoads>, Memory>
+    ensures { IfOk result (λ loads. loads ≡ map task_loads (past.entry.items ++ last.entry.items)) }
+{
+    let mut loads = Sequence::new(alloc);
+    push_loads(&mut loads, past)?;
+    push_loads(&mut loads, last)?;
+    Ok(loads)
 }
 
 impl<'a> Machine<'a> {
@@ -357,6 +371,32 @@ impl<'a> Machine<'a> {
         Ok(())
     }
 
+    /// Gives the next grant as long as there is one, and adds these grants to an empty list.
+    fn grant_each(
+        &mut self,
+        alloc: Global,
+        program: &'a Program,
+        code: &DecodedCode,
+        fuel: u32,
+        grants: &mut Vec<Grant>,
+    ) -> Result<(), Memory>
+        requires none { grants.old.items ≡ [] }
+        requires code { IsDecoded program.now code.now }
+        requires fuel { fuel ≤ 32768 }
+        requires locks { length program.now.locks ≤ 32 }
+        requires sound { IsSoundFlat program.now fuel self.old }
+        ensures least { IfOk result (λ done. IsLeastFrom program.now fuel (Some self.old) grants.new.items) }
+        ensures leads { IfOk result (λ done. grants_from program.now fuel (Some self.old) grants.new.items ≡ Some self.new) }
+        ensures whole { IfOk result (λ done. next_grant program.now fuel self.new ≡ None) }
+        ensures sound { IfOk result (λ done. IsSoundFlat program.now fuel self.new) }
+    {
+        'grants: while let Some(next) = self.next_grant(program, fuel) {
+            self.grant_next(alloc, program, code, fuel, next)?;
+            grants.push(next)?;
+        }
+        Ok(())
+    }
+
     /// Gives the next grant as long as there is one. Returns the list of these grants.
     pub(crate) fn grant_least(
         &mut self,
@@ -375,10 +415,7 @@ impl<'a> Machine<'a> {
         ensures sound { IfOk result (λ grants. IsSoundFlat program.now fuel self.new) }
     {
         let mut grants = Vec::new(alloc);
-        'grants: while let Some(next) = self.next_grant(program, fuel) {
-            self.grant_next(alloc, program, code, fuel, next)?;
-            grants.push(next)?;
-        }
+        self.grant_each(alloc, program, code, fuel, &mut grants)?;
         Ok(grants)
     }
 
@@ -389,6 +426,29 @@ impl<'a> Machine<'a> {
         ensures { result ≡ next_grant program.now fuel self.now }
     {
         first_grant(program, fuel, self.tasks.as_slice())
+    }
+
+    /// Adds how all tasks that have started stand to no ends.
+    fn push_all_ends(
+        &self,
+        ends: &mut Sequence<TaskEnd>,
+        program: &Program,
+        fuel: u32,
+    ) -> Result<(), Memory>
+        requires { ends.old ≡ [] }
+        ensures { IfOk result (λ done. ends.new ≡ flat_ends_of program.now fuel self.now) }
+    {
+        push_ends(ends, program, fuel, self.past.as_slice())?;
+        push_ends(ends, program, fuel, self.tasks.as_slice())
+    }
+
+    /// How all tasks that have started stand.
+    fn ends(&self, alloc: Global, program: &Program, fuel: u32) -> Result<Sequence<TaskEnd>, Memory>
+        ensures { IfOk result (λ ends. ends ≡ flat_ends_of program.now fuel self.now) }
+    {
+        let mut ends = Sequence::new(alloc);
+        self.push_all_ends(&mut ends, program, fuel)?;
+        Ok(ends)
     }
 
     /// The end of the run.
@@ -404,18 +464,14 @@ impl<'a> Machine<'a> {
         ensures value { IfOk result (λ end. end ≡ flat_end_of program.now fuel self.entry) }
         ensures within { IfOk result (λ end. (length end.ending.memory ≤ 65536) × (length end.ending.tasks ≤ 64)) }
     {
-        let mut tasks = Sequence::new(alloc);
-        push_ends(&mut tasks, program, fuel, self.past.as_slice())?;
-        push_ends(&mut tasks, program, fuel, self.tasks.as_slice())?;
-        let mut loads = Sequence::new(alloc);
+        let tasks = self.ends(alloc, program, fuel)?;
         let Machine {
             begun: _,
             past,
             tasks: last,
             memory,
         } = self;
-        push_loads(&mut loads, past)?;
-        push_loads(&mut loads, last)?;
+        let loads = all_loads(alloc, past, last)?;
         Ok(FlatEnd {
             ending: Ending {
                 outcome: outcome(tasks.as_slice()),

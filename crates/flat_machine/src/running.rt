@@ -1,14 +1,15 @@
-ghost use Rattle.std.specs.Prelude.{◌≡◌, ◌≤◌, ◌<◌, Some, length, IfOk, IfSome, true, false};
+ghost use Rattle.std.specs.Prelude.{◌≡◌, ◌≤◌, ◌<◌, None, Some, length, IfOk, IfSome, true, false};
 ghost use Rattle.rv_core.specs.Access.{is_held};
 ghost use Rattle.rv_core.specs.Decoded.{IsDecoded};
-ghost use Rattle.rv_core.specs.Kinds.{Allowed};
-ghost use Rattle.rv_core.specs.Step.{advanced};
-ghost use Rattle.flat_machine.specs.Step.{At, fresh, wish, in_state, flat_step, segment, room, IsWithin, HasLock, WantsLock, IsUnmoved};
+ghost use Rattle.rv_core.specs.Kinds.{Allowed, IsLoad};
+ghost use Rattle.rv_core.specs.Next.{IsNextOf};
+ghost use Rattle.rv_core.specs.Step.{advanced, loaded_of};
+ghost use Rattle.flat_machine.specs.Step.{At, fresh, wish, in_state, in_load, flat_step, segment, room, IsWithin, HasLock, WantsLock, IsUnmoved};
 ghost use Rattle.flat_machine.specs.Phases.{has_finished};
 
 use dn_base::{LoadSeen, Memory, PhaseId, Sequence, WordId};
 use region_table::{Program, TaskDecl};
-use rv_core::{DecodedCode, End, Need, TaskState};
+use rv_core::{DecodedCode, End, Need, Next, TaskState};
 use std::alloc::Global;
 use std::marker::Model;
 
@@ -62,6 +63,29 @@ impl Running<'_> {
         matches!(self.state.end, Some(End::Finished))
     }
 
+    /// The task's next instruction, a load of a word of this value, retires and is noted.
+    #[inline(always)]
+    fn load(
+        &mut self,
+        program: &Program,
+        fuel: u32,
+        next: &Next,
+        word: WordId,
+        value: u32,
+    ) -> Result<(), Memory>
+        requires open { self.old.state.end ≡ None }
+        requires retired { self.old.state.retired ≤ fuel }
+        requires next { IsNextOf program.now self.old.decl fuel self.old.state next.now }
+        requires kind { IsLoad next.now.need }
+        ensures value { IfOk result (λ done. self.new ≡ in_load self.old (loaded_of program.now value self.old.state) (record { word = word; value = value })) }
+        ensures within { IsWithin fuel self.new }
+        ensures room { room fuel self.new < room fuel self.old }
+    {
+        self.state
+            .complete_load(program, self.decl, fuel, next, value);
+        self.loads.push(LoadSeen { word, value })
+    }
+
     /// Makes one instruction of the task; a task that has ended or wants a lock isn't changed. Returns whether an instruction
     /// was made.
     pub(crate) fn step(
@@ -94,9 +118,7 @@ impl Running<'_> {
             }
             Need::Load { word } => {
                 let value = memory[word.0 as usize];
-                self.state
-                    .complete_load(program, self.decl, fuel, &next, value);
-                self.loads.push(LoadSeen { word, value })?;
+                self.load(program, fuel, &next, word, value)?;
             }
             Need::Store { word, .. } => {
                 let place = word.0 as usize;

@@ -1,12 +1,15 @@
 ghost use Rattle.std.specs.Prelude.{◌≡◌, ◌≤◌, ◌<◌, Some, length, IfOk, IfSome};
+ghost use Rattle.rv_core.specs.Decoded.{IsDecoded};
+ghost use Rattle.flat_machine.specs.Phases.{IsSoundFlat};
 ghost use Rattle.flat_machine.specs.Grants.{IsLeast};
-ghost use Rattle.flat_machine.specs.Ending.{flat_end};
+ghost use Rattle.flat_machine.specs.Ending.{flat_end, flat_end_of};
 
 use crate::ending::FlatEnd;
 use crate::machine::Machine;
 use crate::refused::{FlatRun, flat_run};
 use dn_base::{Grant, Memory};
 use effect_checker::Checked;
+use region_table::Program;
 use rv_core::DecodedCode;
 use std::alloc::Global;
 
@@ -42,6 +45,21 @@ pub fn flat(
     }
 }
 
+/// The least list of grants of a program, whose code words are decoded.
+fn least_grants_by(
+    alloc: Global,
+    program: &Program,
+    code: &DecodedCode,
+    fuel: u32,
+) -> Result<Vec<Grant>, Memory>
+    requires code { IsDecoded program.now code.now }
+    requires fuel { fuel ≤ 32768 }
+    ensures { IfOk result (λ grants. IsLeast program.now fuel grants.items) }
+{
+    let mut machine = Machine::open(alloc, program, code, fuel)?;
+    machine.grant_least(alloc, program, code, fuel)
+}
+
 /// The least list of grants: at each point it grants to the lowest core whose wanted lock is free, until no task waits for a
 /// free lock.
 ///
@@ -56,8 +74,7 @@ pub fn least_grants(alloc: Global, checked: &Checked, fuel: u32) -> Result<Vec<G
 {
     let program = checked.program();
     let code = DecodedCode::new(alloc, program)?;
-    let mut machine = Machine::open(alloc, program, &code, fuel)?;
-    machine.grant_least(alloc, program, &code, fuel)
+    least_grants_by(alloc, program, &code, fuel)
 }
 
 /// The run by the least list: the list, and the end.
@@ -67,13 +84,49 @@ pub struct LeastRun {
     pub end: FlatEnd,
 }
 
+/// These grants, and the end of the machine that they lead to.
+fn with_end(
+    machine: Machine<'_>,
+    alloc: Global,
+    program: &Program,
+    fuel: u32,
+    grants: Vec<Grant>,
+) -> Result<LeastRun, Memory>
+    requires sound { IsSoundFlat program.now fuel machine }
+    requires words { length program.now.memory ≤ 65536 }
+    ensures grants { IfOk result (λ run. run.grants.items ≡ grants.items) }
+    ensures end { IfOk result (λ run. run.end ≡ flat_end_of program.now fuel machine.entry) }
+    ensures within { IfOk result (λ run. (length run.end.ending.memory ≤ 65536) × (length run.end.ending.tasks ≤ 64)) }
+{
+    let end = machine.finish(alloc, program, fuel)?;
+    Ok(LeastRun { grants, end })
+}
+
+/// The least run of a program, whose code words are decoded.
+#[tactic(auto, unfolding(crate::specs::Ending::flat_end))]
+fn least_run_by(
+    alloc: Global,
+    program: &Program,
+    code: &DecodedCode,
+    fuel: u32,
+) -> Result<LeastRun, Memory>
+    requires code { IsDecoded program.now code.now }
+    requires fuel { fuel ≤ 32768 }
+    ensures least { IfOk result (λ run. IsLeast program.now fuel run.grants.items) }
+    ensures end { IfOk result (λ run. flat_end program.now fuel run.grants.items ≡ Some run.end) }
+    ensures within { IfOk result (λ run. (length run.end.ending.memory ≤ 65536) × (length run.end.ending.tasks ≤ 64)) }
+{
+    let mut machine = Machine::open(alloc, program, code, fuel)?;
+    let grants = machine.grant_least(alloc, program, code, fuel)?;
+    with_end(machine, alloc, program, fuel, grants)
+}
+
 /// The list that `least_grants` gives, and the end that `flat` gives for it. The program runs once.
 ///
 /// Each task may retire `fuel` instructions, from 1 to 32,768.
 ///
 /// # Errors
 /// `Memory` if there is no room for the code, the memory, the tasks, their loads, the list or the end.
-#[tactic(auto, unfolding(crate::specs::Ending::flat_end))]
 pub fn least_run(alloc: Global, checked: &Checked, fuel: u32) -> Result<LeastRun, Memory>
     requires some { 1 ≤ fuel }
     requires most { fuel ≤ 32768 }
@@ -83,8 +136,5 @@ pub fn least_run(alloc: Global, checked: &Checked, fuel: u32) -> Result<LeastRun
 {
     let program = checked.program();
     let code = DecodedCode::new(alloc, program)?;
-    let mut machine = Machine::open(alloc, program, &code, fuel)?;
-    let grants = machine.grant_least(alloc, program, &code, fuel)?;
-    let end = machine.finish(alloc, program, fuel)?;
-    Ok(LeastRun { grants, end })
+    least_run_by(alloc, program, &code, fuel)
 }

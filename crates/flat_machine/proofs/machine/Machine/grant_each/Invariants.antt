@@ -2,7 +2,7 @@ use Rattle.std.proofs.Common.{◌≡◌, List, ◌++◌, Some}
 use Rattle.dn_base.specs.declared.ids.Grant.{Grant}
 use Rattle.flat_machine.specs.Phases.{work, IsSoundFlat}
 use Rattle.flat_machine.specs.Grants.{grants_from, IsLeastFrom}
-use Rattle.flat_machine.proofs.machine.Machine.grant_least.Given as goal
+use Rattle.flat_machine.proofs.machine.Machine.grant_each.Given as goal
 
 abbrev pub invariant-grants : goal.invariant-grants
 invariant-grants l =

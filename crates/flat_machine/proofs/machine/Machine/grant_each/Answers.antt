@@ -3,7 +3,7 @@ use Rattle.std.proofs.lemmas.List.{append-nil}
 use Rattle.flat_machine.specs.Phases.{Flat}
 use Rattle.flat_machine.specs.Grants.{next_grant, granted_if}
 use Rattle.flat_machine.proofs.RunLemmas.{grants-push, least-more}
-use Rattle.flat_machine.proofs.machine.Machine.grant_least.Goals as goal
+use Rattle.flat_machine.proofs.machine.Machine.grant_each.Goals as goal
 
 pub grants-preserved : goal.grants-preserved
 grants-preserved c =
