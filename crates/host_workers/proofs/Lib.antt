@@ -35,6 +35,7 @@ pub mod LastEnds
 pub mod EndsLeft
 pub mod RoundNotes
 pub mod RunSoFar
+pub mod BothOk
 pub mod OpenedRound
 pub mod PutTogether
 pub mod RunRound

@@ -1,6 +1,6 @@
 -- Objects of a hall that are made one after the other, from the last of what they are made of.
 use Rattle.std.proofs.Common.{◌≡◌, ℕ, ◌+◌, ◌≤◌, List, [], ◌∷◌, ◌++◌, length, map, take, get_or, sym, ap, ◌∙◌, arith}
-use Rattle.std.proofs.lemmas.List.{take_more, append_assoc}
+use Rattle.std.proofs.lemmas.List.{take_more, append_assoc, map-append}
 
 module _ {X Y : Type 0} where
   -- one more object was made of the last of what is left
@@ -10,6 +10,15 @@ module _ {X Y : Type 0} where
       ∙ ap (λ z. left ++ z ∷ map row made) is
       ∙ sym (append_assoc left (x ∷ []) (map row made))
       ∙ ap (λ l. l ++ map row made) (sym split)
+      ∙ had
+
+module _ {X Y : Type 0} where
+  -- the last of what is left was taken apart, and put before what was taken before
+  pub taken-more : (part : X → Y) (xs left : List X) (x : X) (taken taken' first : List Y) → xs ≡ left ++ x ∷ [] → taken' ≡ part x ∷ taken → map part xs ++ taken ≡ first → map part left ++ taken' ≡ first
+  taken-more part xs left x taken taken' first split inserted had =
+      ap (λ l. map part left ++ l) inserted
+      ∙ sym (append_assoc (map part left) (part x ∷ []) taken)
+      ∙ ap (λ l. l ++ taken) (sym (map-append part left (x ∷ [])) ∙ ap (map part) (sym split))
       ∙ had
 
 -- the last of the numbers up to a place

@@ -1,8 +1,6 @@
 -- A round as it is opened, from what its parts are made of.
 use Rattle.std.proofs.Common.{◌≡◌, ℕ, ◌≤◌, List, length, take, drop, sym, ap, subst, ◌∙◌, ◌-◌, arith}
-use Rattle.std.specs.List.{range_with_len}
 use Rattle.std.proofs.lemmas.List.{take_all, length-drop}
-use Rattle.std.proofs.lemmas.List.FromFn.{length-range_with_len}
 use Rattle.dn_base.specs.declared.ids.Shape.{Shape}
 use Rattle.registration_protocol.specs.Node.{NodeParts}
 use Rattle.machine_rules.specs.State.{State}
@@ -10,7 +8,6 @@ use Rattle.bank_hall.specs.Banks.{BankActorParts}
 use Rattle.bank_hall.specs.Ports.{PortParts}
 use Rattle.bank_hall.specs.Keepers.{KeeperActorParts}
 use Rattle.bank_hall.specs.Halls.{AreHallParts}
-use Rattle.round_rules.proofs.Mapped.{long-map}
 use Rattle.host_workers.specs.declared.opening.Moving.{Moving}
 use Rattle.host_workers.specs.Inboxes.{InboxParts, AreFirstInboxes, AreObjectsOf, AreAtFirst}
 use Rattle.host_workers.specs.Rosters.{RosterParts, IsFreshRoster}
@@ -47,8 +44,3 @@ module _ (shape : Shape) (S : State) (m : Moving) (is : IsMovingOf shape S m) wh
   parts-there inboxes next objects ports keeper rest first hold clocks =
       hall-parts S S.mails inboxes objects ports keeper is.machine (hold-there inboxes next objects ports keeper rest hold) (first-there inboxes first) clocks
       (subst (λ (sh : Shape). 1 ≤ sh.cores) (sym is.shape_is) is.some) (subst (λ (sh : Shape). sh.cores ≤ 16) (sym is.shape_is) is.most)
-
-  pub banks-there : (inboxes : InboxParts) → AreFirstInboxes shape m.pool.mails inboxes → length inboxes.banks ≡ length m.banks.items
-  banks-there inboxes first =
-      ap length first.banks ∙ (long-map _ (range_with_len 0 shape.banks) ∙ (length-range_with_len 0 shape.banks
-      ∙ (ap (λ (sh : Shape). sh.banks) (sym is.shape_is) ∙ (sym is.machine.banks ∙ ap length is.banks))))

@@ -4,6 +4,7 @@ use Rattle.registration_protocol.specs.Node.{Setting}
 use Rattle.machine_rules.specs.State.{State}
 use Rattle.bank_hall.specs.Halls.{HallView, BankEntry, PortEntry, bank_state, bank_answer, bank_next, port_inbox, port_answer, port_next, keeper_state, keeper_answer, keeper_next}
 use Rattle.bank_hall.specs.Closing.{IsClosedRow, IsToldPass}
+use Rattle.bank_hall.specs.declared.hall.HallEnd.{HallEnd}
 use Rattle.message_net.specs.Pool.{AreDistinct}
 use Rattle.grant_log.specs.declared.log.Stamped.{Stamped}
 use Rattle.round_rules.specs.Steps.{Done}
@@ -36,6 +37,14 @@ pub record HasDoneJob (C : Setting) (hall : HallView) (job done : Job) : Type 0 
 pub record HaveDoneJobs (C : Setting) (hall : HallView) (jobs dones : List Job) : Type 0 where
   pub count : length dones ≡ length jobs
   pub each : (k : ℕ) (job done : Job) → slice_get jobs k ≡ Some job → slice_get dones k ≡ Some done → HasDoneJob C hall job done
+
+-- a round leaves the parts of a closed hall, taken apart, with all calls, and a roster taken apart
+pub record IsLeftBy (end : HallEnd) (parted : Parted) (f : Finished) : Type 0 where
+  pub hold : AreObjectsOf f.objects.banks.items f.objects.keeper (inboxes_of f.objects.inboxes) f.objects.next.items end.parts.banks.items end.parts.ports.items end.parts.keeper
+  pub roster : f.parted ≡ parted
+  pub banks : f.banks ≡ end.banks
+  pub ports : f.ports ≡ end.ports
+  pub keeper : f.keeper ≡ end.keeper
 
 -- the histories of the banks and of the ports that a closed hall gave
 abbrev pub bank_histories : Finished → List (List BankEntry)

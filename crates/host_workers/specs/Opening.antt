@@ -3,6 +3,8 @@ use Rattle.std.specs.Prelude.{◌≡◌, ℕ, ◌≤◌, true, List, All, map, d
 use Rattle.dn_base.specs.declared.ids.Shape.{Shape}
 use Rattle.message_net.specs.declared.message.Mail.{Mail}
 use Rattle.message_net.specs.Mail.{has_actor}
+use Rattle.phase_barrier.specs.Barrier.{Barrier}
+use Rattle.registry_bank.specs.Bank.{BankParts}
 use Rattle.registration_protocol.specs.Node.{Setting}
 use Rattle.machine_rules.specs.State.{State}
 use Rattle.machine_rules.specs.Sound.{IsMachine}
@@ -11,10 +13,12 @@ use Rattle.bank_hall.specs.Banks.{BankActorParts}
 use Rattle.bank_hall.specs.Ports.{PortParts}
 use Rattle.bank_hall.specs.Keepers.{KeeperActorParts}
 use Rattle.bank_hall.specs.Halls.{HallView, PassView, IsSharedHall, AreNewPasses}
+use Rattle.bank_hall.specs.declared.hall.HallParts.{HallParts}
 use Rattle.bank_hall.specs.Closing.{AreAllHallPasses}
 use Rattle.round_rules.specs.Rounds.{IsReached}
 use Rattle.host_workers.specs.declared.crew.Crew.{Crew}
 use Rattle.host_workers.specs.declared.opening.Moving.{Moving}
+use Rattle.host_workers.specs.declared.opening.Opened.{Opened}
 use Rattle.host_workers.specs.declared.working.Job.{Job}
 use Rattle.host_workers.specs.Inboxes.{InboxParts, AreFirstInboxes, AreObjectsOf, AreAtFirst}
 use Rattle.host_workers.specs.Rosters.{RosterParts, IsFreshRoster, AreCrewsOf}
@@ -48,6 +52,20 @@ pub record Objects : Type 0 where
   pub banks : List BankActorParts
   pub ports : List PortParts
   pub keeper : KeeperActorParts
+
+-- the objects of a hall have these banks, this keeper, these numbers of next mails and the mails in flight, with clocks at 0
+pub record AreFirstObjects (shape : Shape) (mails : List Mail) (banks : List BankParts) (keeper : Barrier) (next : List ℕ) (parts : HallParts) : Type 0 where
+  pub inboxes : InboxParts
+  pub first : AreFirstInboxes shape mails inboxes
+  pub hold : AreObjectsOf banks keeper inboxes next parts.banks.items parts.ports.items parts.keeper
+  pub clocks : AreAtFirst parts.banks.items parts.keeper
+
+-- the objects are shared in a hall, and each worker has an unused pass of it and one of the crews
+pub record IsOpenedOf (parts : HallParts) (workers : ℕ) (crews : List Crew) (o : Opened) : Type 0 where
+  pub opened : IsSharedHall parts.banks.items parts.ports.items parts.keeper workers o.hall
+  pub crews_are : map crew_of o.jobs.items ≡ crews
+  pub passes : AreNewPasses o.hall 0 (map pass_of o.jobs.items)
+  pub all : AreAllHallPasses o.hall (map pass_of o.jobs.items)
 
 -- The hall has the banks, the keeper and the mails in flight of a state of the machine, with clocks at 0. Each worker has an
 -- unused pass of it, and its part of the cores and banks, without notes

@@ -9,6 +9,7 @@ use Rattle.round_rules.specs.Rounds.{owner}
 use Rattle.host_workers.specs.declared.crew.BankLog.{BankLog}
 use Rattle.host_workers.specs.declared.crew.Crew.{Crew}
 use Rattle.host_workers.specs.declared.owned.Owned.{Owned}
+use Rattle.host_workers.specs.declared.roster.Parted.{Parted}
 use Rattle.host_workers.specs.declared.roster.Roster.{Roster}
 use Rattle.host_workers.specs.Crews.{keeper_log}
 
@@ -112,3 +113,10 @@ bank_log b = b.log.items
 -- the logs of all actors: cores, banks, keeper
 abbrev pub logs_of : RosterParts → List (List Stamped)
 logs_of roster = map core_log roster.cores ++ (map bank_log roster.banks ++ roster.keeper ∷ [])
+
+-- a roster taken apart
+pub record IsTakenApart (roster : RosterParts) (p : Parted) : Type 0 where
+  pub nodes : p.nodes.items ≡ map node_of roster.cores
+  pub next : p.next.items ≡ map next_of roster.cores
+  pub ends : map (λ e. e.items) p.ends.items ≡ map core_ends roster.cores
+  pub logs : map (λ l. l.items) p.logs.items ≡ logs_of roster

@@ -49,6 +49,12 @@ pub record HasNoted (entries : List Stamped) (old new : Log) : Type 0 where
   pub counts : (kinds : List EventKind) → IsTallied kinds old → IsTallied (kinds ++ map noted_kind entries) new
   pub ends : new.ends ≡ old.ends
 
+-- a log with the entries of a round, and with the ends of the tasks that arrived in it
+pub record HasNotedRound (r : Round) (old new : Log) : Type 0 where
+  pub noted : Log
+  pub entries : HasNoted r.merged.items old noted
+  pub ends : new ≡ record noted { ends = with_ends r.ends.items noted.ends }
+
 -- the rounds so far: their events are a run of the initial machine; the machine is in the state to which they lead, except for
 -- the order of the mails in flight; and the log tells of them, with the ends with which tasks arrived
 pub record IsRunSoFar (C : Setting) (m : Made) (log : Log) : Type 0 where

@@ -1,9 +1,9 @@
 //! How a round of workers ends.
 ghost use Rattle.std.specs.Prelude.{◌≡◌, ◌≤◌, map, length, IfOk};
 ghost use Rattle.bank_hall.specs.Closing.{AreAllHallPasses};
-ghost use Rattle.host_workers.specs.Rosters.{RosterParts, IsRoster, AreCrewsOf};
+ghost use Rattle.host_workers.specs.Rosters.{RosterParts, IsRoster, AreCrewsOf, AreDealt, IsTakenApart};
 ghost use Rattle.host_workers.specs.Opening.{crew_of, pass_of};
-ghost use Rattle.host_workers.specs.Finishing.{IsFinished};
+ghost use Rattle.host_workers.specs.Finishing.{IsLeftBy, IsFinished};
 
 use crate::crew::Crew;
 use crate::inboxes::{Objects, parted};
@@ -41,6 +41,36 @@ fn passes_and_crews(alloc: Global, mut jobs: Vec<Job>) -> Result<(Vec<Pass>, Vec
     Ok((passes, crews))
 }
 
+/// The roster of the crews of all workers, taken apart.
+///
+/// # Errors
+/// `Memory` where there is no room.
+fn gathered(alloc: Global, crews: Vec<Crew>, shape: Shape) -> Result<Parted, Memory>
+    requires some { 1 ≤ length crews.items }
+    requires dealt { AreDealt shape.cores shape.banks crews.items }
+    ensures { IfOk result (λ p. (roster : RosterParts) → IsRoster shape.cores shape.banks roster → AreCrewsOf (length crews.items) roster crews.items → IsTakenApart roster p) }
+{
+    let roster = Roster::gather(alloc, crews, shape.cores, shape.banks)?;
+    roster.part(alloc)
+}
+
+/// What a round leaves, of a closed hall and of a roster taken apart.
+///
+/// # Errors
+/// `Memory` where there is no room.
+fn finished_of(alloc: Global, end: HallEnd, roster: Parted) -> Result<Finished, Memory>
+    ensures { IfOk result (IsLeftBy end roster) }
+{
+    let objects = parted(alloc, end.parts)?;
+    Ok(Finished {
+        parted: roster,
+        objects,
+        banks: end.banks,
+        ports: end.ports,
+        keeper: end.keeper,
+    })
+}
+
 /// Finishes a round: closes the hall with all its passes, and gathers what the workers own.
 ///
 /// # Errors
@@ -57,20 +87,7 @@ pub(crate) fn finish(
     ensures { IfOk result (IsFinished shape.cores shape.banks hall jobs.items) }
 {
     let (passes, crews) = passes_and_crews(alloc, jobs)?;
-    let HallEnd {
-        parts,
-        banks,
-        ports,
-        keeper,
-    } = hall.close(alloc, passes)?;
-    let roster = Roster::gather(alloc, crews, shape.cores, shape.banks)?;
-    let parted_roster = roster.part(alloc)?;
-    let objects = parted(alloc, parts)?;
-    Ok(Finished {
-        parted: parted_roster,
-        objects,
-        banks,
-        ports,
-        keeper,
-    })
+    let end = hall.close(alloc, passes)?;
+    let roster = gathered(alloc, crews, shape)?;
+    finished_of(alloc, end, roster)
 }

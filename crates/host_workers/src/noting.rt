@@ -2,8 +2,9 @@
 ghost use Rattle.std.specs.Prelude.{◌≡◌, ◌+◌, ◌≤◌, List, length, OnOk};
 ghost use Rattle.message_net.specs.declared.event.EventKind.{EventKind};
 ghost use Rattle.host_workers.specs.Ends.{with_ends, last_ends};
-ghost use Rattle.host_workers.specs.RoundOf.{IsTallied, HasNoted};
+ghost use Rattle.host_workers.specs.RoundOf.{IsTallied, HasNoted, HasNotedRound};
 
+use crate::round::Round;
 use dn_base::{CoreId, MOST_CORES, Memory};
 use dn_machine::{Happened, Log, Machine, Stepped};
 use grant_log::Stamped;
@@ -13,7 +14,7 @@ use rv_core::TaskEnd;
 ///
 /// # Errors
 /// `Memory` if there is no room; the log can't be used any more then.
-pub(crate) fn note_events(log: &mut Log, merged: &[Stamped]) -> Result<(), Memory>
+fn note_events(log: &mut Log, merged: &[Stamped]) -> Result<(), Memory>
     requires counted { (kinds : List EventKind) × IsTallied kinds log.old }
     requires few { length log.old.events + length merged.now ≤ 25169664 }
     ensures { OnOk result (HasNoted merged.now log.old log.new) }
@@ -34,12 +35,26 @@ pub(crate) fn note_events(log: &mut Log, merged: &[Stamped]) -> Result<(), Memor
 }
 
 /// Notes the ends of the tasks that arrived in a round.
-pub(crate) fn note_ends(log: &mut Log, ends: &[TaskEnd])
+fn note_ends(log: &mut Log, ends: &[TaskEnd])
     ensures { log.new ≡ record log.old { ends = with_ends ends.now log.old.ends } }
 {
     for end in ends {
         log.note_end(*end);
     }
+}
+
+/// Notes the events of a round, and then the ends of the tasks that arrived in it.
+///
+/// # Errors
+/// `Memory` if there is no room; the log can't be used any more then.
+pub(crate) fn note_round(log: &mut Log, round: &Round) -> Result<(), Memory>
+    requires counted { (kinds : List EventKind) × IsTallied kinds log.old }
+    requires few { length log.old.events + length round.now.merged.items ≤ 25169664 }
+    ensures { OnOk result (HasNotedRound round.now log.old log.new) }
+{
+    note_events(log, round.merged.as_slice())?;
+    note_ends(log, round.ends.as_slice());
+    Ok(())
 }
 
 /// Notes how the tasks stand in a machine's state.

@@ -1,14 +1,16 @@
 //! How a round of workers begins.
 ghost use Rattle.std.specs.Prelude.{◌≡◌, ◌+◌, ◌*◌, ◌^◌, ◌≤◌, length, map, IfOk};
+ghost use Rattle.bank_hall.specs.Halls.{AreHallParts};
 ghost use Rattle.dn_machine.specs.Schedule.{generator_of};
 ghost use Rattle.machine_rules.specs.State.{State};
-ghost use Rattle.host_workers.specs.Opening.{IsMovingOf, IsInitialRound, crew_of, pass_of};
+ghost use Rattle.host_workers.specs.Opening.{IsMovingOf, AreFirstObjects, IsOpenedOf, IsInitialRound, crew_of, pass_of};
+ghost use Rattle.host_workers.specs.Rosters.{RosterParts, IsFreshRoster, AreCrewsOf};
 
 use crate::crew::Crew;
 use crate::inboxes::Inboxes;
 use crate::roster::Roster;
 use crate::working::Job;
-use bank_hall::{Hall, Pass};
+use bank_hall::{Hall, HallParts, Pass};
 use dn_base::{Memory, Shape};
 use message_net::Pool;
 use phase_barrier::Keeper;
@@ -68,6 +70,71 @@ fn jobs_of(
     Ok(jobs)
 }
 
+/// The objects of a hall: the banks and the keeper, with the mails in flight in their inboxes, and the cores' ports. `next` has the
+/// numbers of the banks' next mails, and then the keeper's.
+///
+/// # Errors
+/// `Memory` where there is no room.
+fn objects_of(
+    alloc: Global,
+    pool: &Pool,
+    banks: Vec<Bank>,
+    keeper: Keeper,
+    next: &[u32],
+    shape: Shape,
+) -> Result<HallParts, Memory>
+    requires banks { length banks.items ≡ shape.banks }
+    requires numbers { length next.now ≡ length banks.items + 1 }
+    ensures { IfOk result (AreFirstObjects shape pool.now.mails banks.items keeper next.now) }
+{
+    let inboxes = Inboxes::new(alloc, pool, shape)?;
+    inboxes.objects(alloc, banks, keeper, next)
+}
+
+/// The crews of the workers, which own these nodes and the banks; `next` has the numbers of all actors' next mails.
+///
+/// # Errors
+/// `Memory` where there is no room.
+fn crews_of_round(
+    alloc: Global,
+    nodes: Vec<Node>,
+    next: &[u32],
+    banks: u32,
+    workers: u32,
+) -> Result<Vec<Crew>, Memory>
+    requires some { 1 ≤ workers }
+    requires few { workers ≤ 16 }
+    requires cores { length nodes.items ≤ 16 }
+    requires banks { banks ≤ 16 }
+    requires numbers { length nodes.items ≤ length next.now }
+    ensures { IfOk result (λ crews. (roster : RosterParts) × IsFreshRoster nodes.items banks next.now roster × AreCrewsOf workers roster crews.items) }
+{
+    let roster = Roster::new(alloc, nodes, banks, next)?;
+    roster.deal(alloc, workers)
+}
+
+/// Shares the objects in a hall, and gives each worker a pass of it with its crew.
+///
+/// # Errors
+/// `Memory` where there is no room.
+fn opened_of(
+    alloc: Global,
+    objects: HallParts,
+    crews: Vec<Crew>,
+    workers: u32,
+    seed: u32,
+) -> Result<Opened, Memory>
+    requires some { 1 ≤ workers }
+    requires few { workers ≤ 16 }
+    requires count { length crews.items ≡ workers }
+    requires parts { AreHallParts objects.banks.items objects.ports.items objects.keeper }
+    ensures { IfOk result (IsOpenedOf objects workers crews.items) }
+{
+    let (hall, passes) = Hall::start(alloc, objects, workers)?;
+    let jobs = jobs_of(alloc, passes, crews, seed)?;
+    Ok(Opened { hall, jobs })
+}
+
 /// Opens a round: shares the banks, the keeper and the inboxes in a hall, and deals the cores and banks out to the workers.
 ///
 /// # Errors
@@ -91,12 +158,8 @@ pub(crate) fn open(
         pool,
         next,
     } = moving;
-    let inboxes = Inboxes::new(alloc, &pool, shape)?;
     let cores = shape.cores as usize;
-    let objects = inboxes.objects(alloc, banks, keeper, &next[cores..])?;
-    let (hall, passes) = Hall::start(alloc, objects, workers)?;
-    let roster = Roster::new(alloc, nodes, shape.banks, next.as_slice())?;
-    let crews = roster.deal(alloc, workers)?;
-    let jobs = jobs_of(alloc, passes, crews, seed)?;
-    Ok(Opened { hall, jobs })
+    let objects = objects_of(alloc, &pool, banks, keeper, &next[cores..], shape)?;
+    let crews = crews_of_round(alloc, nodes, next.as_slice(), shape.banks, workers)?;
+    opened_of(alloc, objects, crews, workers, seed)
 }

@@ -2,7 +2,7 @@
 ghost use Rattle.std.specs.Prelude.{◌≡◌, ℕ, ◌≤◌, [], ◌∷◌, ◌++◌, map, length, slice_get, Some, IfOk, OnOk};
 ghost use Rattle.host_workers.specs.declared.crew.BankLog.{BankLog as OneBank};
 ghost use Rattle.host_workers.specs.declared.owned.Owned.{Owned as OneCore};
-ghost use Rattle.host_workers.specs.Rosters.{roster_of, IsFreshCore, IsFreshRoster, AreCrewsOf, AreDealt, IsTheDealt, HaveGotCores, HaveGotBanks, HaveGivenCores, HaveGivenBanks, node_of, next_of, core_log, core_ends, bank_log, logs_of};
+ghost use Rattle.host_workers.specs.Rosters.{roster_of, IsFreshCore, IsFreshRoster, AreCrewsOf, AreDealt, IsTheDealt, HaveGotCores, HaveGotBanks, HaveGivenCores, HaveGivenBanks, node_of, next_of, core_log, core_ends, bank_log, IsTakenApart};
 
 use crate::crew::{BankLog, Crew};
 use crate::owned::Owned;
@@ -294,10 +294,7 @@ impl Roster {
     /// # Errors
     /// `Memory` where there is no room.
     pub(crate) fn part(self, alloc: Global) -> Result<Parted, Memory>
-        ensures nodes { IfOk result (λ p. p.nodes.items ≡ map node_of (roster_of self).cores) }
-        ensures next { IfOk result (λ p. p.next.items ≡ map next_of (roster_of self).cores) }
-        ensures ends { IfOk result (λ p. map (λ e. e.items) p.ends.items ≡ map core_ends (roster_of self).cores) }
-        ensures logs { IfOk result (λ p. map (λ l. l.items) p.logs.items ≡ logs_of (roster_of self)) }
+        ensures { IfOk result (IsTakenApart (roster_of self)) }
     {
         let mut parted = part_cores(alloc, self.cores)?;
         push_logs(&mut parted.logs, self.banks)?;

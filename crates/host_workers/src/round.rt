@@ -48,6 +48,15 @@ pub struct Round {
     pub keeper: Vec<Entry<KeeperActor>>,
 }
 
+impl Round {
+    /// The machine that the round left.
+    pub(crate) fn into_machine(self) -> Machine
+        ensures { result ≡ self.machine }
+    {
+        self.machine
+    }
+}
+
 /// What a round doesn't change of a machine: the program with its decoded code and its plans, the size, and the fuel. It also
 /// has the number of events before the round.
 #[derive(Drop)]
@@ -212,6 +221,31 @@ fn put_together(alloc: Global, fixed: FixedParts, finished: Finished) -> Result<
     })
 }
 
+/// Opens a round on what it changes in a machine, lets the workers make their passes, and closes it.
+///
+/// # Errors
+/// `Memory` if there is no room. All workers have ended by then.
+fn finished_round<R: Threads + Wait + Sync, G: Gate + Sync>(
+    rt: &R,
+    alloc: Global,
+    fixed: &FixedParts,
+    moving: Moving,
+    workers: u32,
+    seed: u32,
+    gate: &G,
+) -> Result<Finished, Memory>
+    requires some { 1 ≤ workers }
+    requires few { workers ≤ 16 }
+    requires far { fixed.now.made < 3000000000 }
+    requires kept { IsKept (made_from_parts fixed.now moving).state fixed.now.made }
+    ensures { IfOk result (λ finished. (S : State) → StandsFor S (made_from_parts fixed.now moving).state
+        → IsRoundLeft S (made_from_parts fixed.now moving).state fixed.now.made workers finished) }
+{
+    let Opened { hall, jobs } = open(alloc, moving, fixed.shape, workers, seed)?;
+    let dones = work_all(rt, alloc, &hall, &fixed.context(), jobs, gate)?;
+    finish(alloc, hall, dones, fixed.shape)
+}
+
 /// One round. There are `workers` workers, each on a thread of its own if one can be made. Worker w owns the cores and banks
 /// whose number modulo the number of workers is w, and worker 0 the keeper. They make passes over a hall of the machine's
 /// objects until no more events come, at most 4,096. Then the notes of all events are merged into one list, and the machine is
@@ -237,9 +271,6 @@ pub fn run_round<R: Threads + Wait + Sync, G: Gate + Sync>(
     ensures { IfOk result (λ round. (S : State) → StandsFor S machine.state → IsMadeRound S machine.state machine.made workers round) }
 {
     let (fixed, moving) = parts_of(machine);
-    let Opened { hall, jobs } = open(alloc, moving, fixed.shape, workers, seed)?;
-    let context = fixed.context();
-    let dones = work_all(rt, alloc, &hall, &context, jobs, gate)?;
-    let finished = finish(alloc, hall, dones, fixed.shape)?;
+    let finished = finished_round(rt, alloc, &fixed, moving, workers, seed, gate)?;
     put_together(alloc, fixed, finished)
 }

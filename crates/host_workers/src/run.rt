@@ -1,13 +1,14 @@
 //! A whole run of a machine by workers, in rounds.
-ghost use Rattle.std.specs.Prelude.{◌≡◌, ◌≢◌, ◌+◌, ◌^◌, ◌%◌, ◌<◌, ◌≤◌, true, length, None, IfOk};
+ghost use Rattle.std.specs.Prelude.{◌≡◌, ◌≢◌, ◌+◌, ◌^◌, ◌%◌, ◌<◌, ◌≤◌, true, List, length, None, IfOk, OnOk};
 ghost use Rattle.message_net.specs.declared.event.Event.{Event as EventOf};
+ghost use Rattle.message_net.specs.declared.event.EventKind.{EventKind};
 ghost use Rattle.machine_rules.specs.State.{initial_state};
 ghost use Rattle.machine_rules.specs.Next.{enabled};
 ghost use Rattle.machine_rules.specs.Runs.{IsOver};
 ghost use Rattle.dn_machine.specs.Run.{IsCoherentRun};
-ghost use Rattle.host_workers.specs.RoundOf.{IsRunSoFar};
+ghost use Rattle.host_workers.specs.RoundOf.{IsTallied, HasNotedRound, IsRunSoFar};
 
-use crate::noting::{note_ends, note_events, note_last};
+use crate::noting::{note_last, note_round};
 use crate::round::{Round, run_round};
 use dn_base::{Gate, Memory};
 use dn_machine::{Log, Machine, RunRecord, a_machine_is_kept};
@@ -33,6 +34,20 @@ fn seed_after(seed: u32) -> u32
     seed.wrapping_add(1)
 }
 
+/// Notes a round, and gives the machine that it left.
+///
+/// # Errors
+/// `Memory` if there is no room; the log can't be used any more then.
+fn noted(log: &mut Log, round: Round) -> Result<Machine, Memory>
+    requires counted { (kinds : List EventKind) × IsTallied kinds log.old }
+    requires few { length log.old.events + length round.merged.items ≤ 25169664 }
+    ensures machine { IfOk result (λ m. m ≡ round.machine) }
+    ensures noted { OnOk result (HasNotedRound round log.old log.new) }
+{
+    note_round(log, &round)?;
+    Ok(round.into_machine())
+}
+
 /// Makes one more round, and notes it.
 ///
 /// # Errors
@@ -54,17 +69,37 @@ fn go_on<R: Threads + Wait + Sync, G: Gate + Sync>(
     ensures more { IfOk result (λ m. length log.old.events < length log.new.events) }
     ensures setting { IfOk result (λ m. m.state.setting ≡ machine.state.setting) }
 {
-    let Round {
-        machine: left,
-        merged,
-        ends,
-        banks: _,
-        ports: _,
-        keeper: _,
-    } = run_round(rt, alloc, machine, workers, seed, gate)?;
-    note_events(log, merged.as_slice())?;
-    note_ends(log, ends.as_slice());
-    Ok(left)
+    let round = run_round(rt, alloc, machine, workers, seed, gate)?;
+    noted(log, round)
+}
+
+/// Makes rounds until no event may come, and notes them. Gives the machine after them.
+///
+/// # Errors
+/// `Memory` if there is no room; the log can't be used any more then.
+fn make_rounds<R: Threads + Wait + Sync, G: Gate + Sync>(
+    rt: &R,
+    alloc: Global,
+    machine: Machine,
+    workers: u32,
+    seed: u32,
+    gate: &G,
+    log: &mut Log,
+) -> Result<Machine, Memory>
+    requires some { 1 ≤ workers }
+    requires few { workers ≤ 16 }
+    requires far { IsRunSoFar machine.state.setting machine log.old }
+    ensures far { IfOk result (λ m. IsRunSoFar machine.state.setting m log.new) }
+    ensures over { IfOk result (λ m. IsOver m.state) }
+    ensures setting { IfOk result (λ m. m.state.setting ≡ machine.state.setting) }
+{
+    let mut current = machine;
+    let mut next_seed = seed;
+    'rounds: while let Some(_event) = current.pick(0) {
+        current = go_on(rt, alloc, current, workers, next_seed, gate, log)?;
+        next_seed = seed_after(next_seed);
+    }
+    Ok(current)
 }
 
 /// Notes how the tasks stand at the end of the run of which a log tells, by the machine after it. Gives the ending of the run.
@@ -86,13 +121,35 @@ fn ended(alloc: Global, machine: &Machine, log: &mut Log) -> Result<Ending, Memo
 ///
 /// # Errors
 /// `Memory` where there is no room for the record.
-fn recorded(alloc: Global, machine: &Machine, mut log: Log) -> Result<RunRecord, Memory>
-    requires far { IsRunSoFar machine.now.state.setting machine.now log }
-    requires over { IsOver machine.now.state }
-    ensures { IfOk result (IsCoherentRun (initial_state machine.now.state.setting)) }
+fn recorded(alloc: Global, machine: Machine, mut log: Log) -> Result<RunRecord, Memory>
+    requires far { IsRunSoFar machine.state.setting machine log }
+    requires over { IsOver machine.state }
+    ensures { IfOk result (IsCoherentRun (initial_state machine.state.setting)) }
 {
-    let ending = ended(alloc, machine, &mut log)?;
+    let ending = ended(alloc, &machine, &mut log)?;
     Ok(log.record(ending))
+}
+
+/// Makes rounds until no event may come. Gives the record of the run, of which the log tells so far.
+///
+/// # Errors
+/// `Memory` if there is no room.
+fn recorded_run<R: Threads + Wait + Sync, G: Gate + Sync>(
+    rt: &R,
+    alloc: Global,
+    machine: Machine,
+    workers: u32,
+    seed: u32,
+    gate: &G,
+    mut log: Log,
+) -> Result<RunRecord, Memory>
+    requires some { 1 ≤ workers }
+    requires few { workers ≤ 16 }
+    requires far { IsRunSoFar machine.state.setting machine log }
+    ensures { IfOk result (IsCoherentRun (initial_state machine.state.setting)) }
+{
+    let last = make_rounds(rt, alloc, machine, workers, seed, gate, &mut log)?;
+    recorded(alloc, last, log)
 }
 
 /// The whole run of a machine by 1 to 16 workers, in rounds. If an event may come after a round, there is another round, with a
@@ -125,12 +182,6 @@ pub fn run_workers<R: Threads + Wait + Sync, G: Gate + Sync>(
     keep_freed_memory(alloc);
     // for the proof alone: no event has come, so the machine is the initial one, with which a run begins
     a_machine_is_kept(&machine);
-    let mut log = machine.log(alloc)?;
-    let mut current = machine;
-    let mut next_seed = seed;
-    'rounds: while let Some(_event) = current.pick(0) {
-        current = go_on(rt, alloc, current, workers, next_seed, gate, &mut log)?;
-        next_seed = seed_after(next_seed);
-    }
-    recorded(alloc, &current, log)
+    let log = machine.log(alloc)?;
+    recorded_run(rt, alloc, machine, workers, seed, gate, log)
 }

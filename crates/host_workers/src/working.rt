@@ -33,12 +33,51 @@ pub(crate) struct Job {
 /// is given to another thread.
 ///
 /// # Errors
+/// `Memory` if there is no room; the worker ends its round.
+fn make_passes<R: Wait, G: Gate>(
+    rt: &R,
+    hall: &Hall,
+    context: &Context<'_>,
+    job: &mut Job,
+    gate: &G,
+) -> Result<(), Memory>
+    requires may { MayAct (setting context.now) hall.now job.old.pass }
+    requires crew { IsCrew (setting context.now) job.old.crew }
+    ensures pass { OnOk result (KeepsNumber hall.now job.old.pass job.new.pass) }
+    ensures crew { OnOk result (IsCrew (setting context.now) job.new.crew) }
+    ensures worked { OnOk result (HasWorkedOn (setting context.now) job.old.pass job.new.pass job.old.crew job.new.crew) }
+{
+    let mut idle = 0;
+    for passes in 0..MOST_PASSES {
+        let made = worker_pass(
+            rt,
+            hall,
+            &mut job.pass,
+            context,
+            &mut job.crew,
+            &mut job.draws,
+            gate,
+        )?;
+        idle = if made > 0 { 0 } else { idle + 1 };
+        if idle >= IDLE_PASSES {
+            return Ok(());
+        }
+        if idle > 0 {
+            thread::yield_now();
+        }
+    }
+    Ok(())
+}
+
+/// The passes of a worker in a round, on a thread of its own.
+///
+/// # Errors
 /// `Memory` if there is no room; the worker ends its round, and what it holds is dropped.
 pub(crate) fn work<R: Wait, G: Gate>(
     rt: &R,
     hall: &Hall,
     context: &Context<'_>,
-    job: Job,
+    mut job: Job,
     gate: &G,
 ) -> Result<Job, Memory>
     requires may { MayAct (setting context.now) hall.now job.pass }
@@ -47,23 +86,8 @@ pub(crate) fn work<R: Wait, G: Gate>(
     ensures crew { IfOk result (λ done. IsCrew (setting context.now) done.crew) }
     ensures worked { IfOk result (λ done. HasWorkedOn (setting context.now) job.pass done.pass job.crew done.crew) }
 {
-    let Job {
-        mut pass,
-        mut crew,
-        mut draws,
-    } = job;
-    let mut idle = 0;
-    for passes in 0..MOST_PASSES {
-        let made = worker_pass(rt, hall, &mut pass, context, &mut crew, &mut draws, gate)?;
-        idle = if made > 0 { 0 } else { idle + 1 };
-        if idle >= IDLE_PASSES {
-            return Ok(Job { pass, crew, draws });
-        }
-        if idle > 0 {
-            thread::yield_now();
-        }
-    }
-    Ok(Job { pass, crew, draws })
+    make_passes(rt, hall, context, &mut job, gate)?;
+    Ok(job)
 }
 
 /// Puts the job of a worker before the others.

@@ -1,4 +1,5 @@
-use Rattle.std.proofs.Common.{[], ◌∷◌, length, ap, arith, length-append, refl}
+use Rattle.std.proofs.Common.{◌≡◌, ◌++◌, [], ◌∷◌, length, map, ap, subst, ◌∙◌, arith, length-append, refl}
+use Rattle.std.proofs.lemmas.List.{nil_from_length}
 use Rattle.host_workers.specs.Opening.{crew_of, pass_of}
 use Rattle.host_workers.proofs.MadeObjects.{made-more}
 use Rattle.host_workers.proofs.opening.jobs_of.Goals as goal
@@ -15,3 +16,13 @@ loop-pass-preserved c =
       crews = made-more crew_of _ _ _ _ _ _ _ crews inserted refl had.crews;
       count = omega (arith, had.count, ap length passes, ap length crews, fewer, less);
     }
+
+pub returns-clause-passes : goal.returns-clause-passes
+returns-clause-passes c =
+    let none : length c.loop-pass.passes.items ≡ 0 = omega (arith, c.in_default.ensures.cases.0, c.loop-pass.passes.ok.0) in
+    subst (λ l. l ++ map pass_of c.loop-pass.jobs.items ≡ c.args.passes.items) (nil_from_length c.loop-pass.passes.items none) c.loop-pass.invariant.passes
+
+pub returns-clause-crews : goal.returns-clause-crews
+returns-clause-crews c =
+    let none : length c.loop-pass.crews.items ≡ 0 = omega (arith, c.in_default.ensures.cases.0, c.loop-pass.passes.ok.0, c.loop-pass.invariant.count) in
+    subst (λ l. l ++ map crew_of c.loop-pass.jobs.items ≡ c.args.crews.items) (nil_from_length c.loop-pass.crews.items none) c.loop-pass.invariant.crews

@@ -1,6 +1,6 @@
 use Rattle.std.proofs.Common.{◌≡◌, ◌-◌, length}
 use Rattle.host_workers.specs.RoundOf.{IsRunSoFar}
-use Rattle.host_workers.proofs.run.run_workers.Given as goal
+use Rattle.host_workers.proofs.run.make_rounds.Given as goal
 
 abbrev pub invariant-rounds : goal.invariant-rounds
 invariant-rounds g l = record {

@@ -1,7 +1,7 @@
 use Rattle.std.proofs.Common.{refl, ◌∙◌, arith}
 use Rattle.registration_protocol.specs.Setting.{setting}
 use Rattle.host_workers.proofs.Passing.{worked-on}
-use Rattle.host_workers.proofs.working.work.Goals as goal
+use Rattle.host_workers.proofs.working.make_passes.Goals as goal
 
 pub loop-passes-init : goal.loop-passes-init
 loop-passes-init g c = record {
@@ -23,7 +23,7 @@ worker_pass-requires-clause-may g c = record {
 pub returns-then-idle-ge-IDLE_PASSES-clause-worked : goal.returns-then-idle-ge-IDLE_PASSES-clause-worked
 returns-then-idle-ge-IDLE_PASSES-clause-worked g c =
     let had = c.loop-passes.invariant in
-    worked-on (setting c.args.context.now) c.args.job.pass c.loop-passes.pass c.worker_pass.new.pass c.args.job.crew c.loop-passes.crew c.worker_pass.new.crew c.loop-passes.passes c.in_ok-made.made had.began had.worked had.pass.1 c.in_ok-made.ensures.worked
+    worked-on (setting c.args.context.now) c.args.job.now.pass c.loop-passes.job.pass c.worker_pass.new.pass c.args.job.now.crew c.loop-passes.job.crew c.worker_pass.new.crew c.loop-passes.passes c.in_ok-made.made had.began had.worked had.pass.1 c.in_ok-made.ensures.worked
 
 pub loop-passes-preserved : goal.loop-passes-preserved
 loop-passes-preserved g c =
@@ -33,5 +33,5 @@ loop-passes-preserved g c =
       crew = c.in_ok-made.ensures.crew;
       idle = omega (arith, busy);
       began = λ e. absurd (omega (arith, e));
-      worked = λ some. worked-on (setting c.args.context.now) c.args.job.pass c.loop-passes.pass c.worker_pass.new.pass c.args.job.crew c.loop-passes.crew c.worker_pass.new.crew c.loop-passes.passes c.in_ok-made.made had.began had.worked had.pass.1 c.in_ok-made.ensures.worked;
+      worked = λ some. worked-on (setting c.args.context.now) c.args.job.now.pass c.loop-passes.job.pass c.worker_pass.new.pass c.args.job.now.crew c.loop-passes.job.crew c.worker_pass.new.crew c.loop-passes.passes c.in_ok-made.made had.began had.worked had.pass.1 c.in_ok-made.ensures.worked;
     }
