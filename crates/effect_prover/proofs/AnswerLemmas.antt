@@ -2,7 +2,7 @@
 use Rattle.std.proofs.Common.{◌≡◌, ◌⊎◌, ℕ, ◌+◌, ◌<◌, ◌≤◌, Bool, true, false, List, length, get_or, slice_get, Option, Some, None, Result, Ok, Err, IfOk, refl, sym, ap, ◌∙◌, subst, arith, ⊎_elim, Decides}
 use Rattle.std.specs.List.{All, AllPairs, IsAmong}
 use Rattle.std.proofs.lemmas.Bool.{false≢true, cases_eq, cases_lt, cases_order}
-use Rattle.std.proofs.lemmas.Option.{none-some, same_Some, slice_get-get_or, slice_get_within, get_or_from_slice_get, slice_get_past}
+use Rattle.std.proofs.lemmas.Option.{none-some, same_Some, slice_get-get_or, slice_get_within, get_or_from_slice_get}
 use Rattle.std.proofs.lemmas.List.{get_or_past}
 use Rattle.dn_base.specs.declared.failure.Memory.{Memory}
 use Rattle.region_table.specs.Program.{ProgramParts, IsProgram}
@@ -11,14 +11,13 @@ use Rattle.region_table.specs.declared.declared.TaskDecl.{TaskDecl}
 use Rattle.region_table.specs.declared.declared.Phase.{Phase}
 use Rattle.region_table.proofs.TaskLemmas.{declared-tells, declared-only}
 use Rattle.rv_isa.specs.declared.instr.Instr.{Instr}
-use Rattle.rv_core.specs.Step.{read_instr}
 use Rattle.effect_checker.specs.Least.{IsFirst}
 use Rattle.effect_prover.specs.declared.row.Row.{Row}
 use Rattle.effect_prover.specs.declared.proved.Proved.{Proved}
 use Rattle.effect_prover.specs.declared.proved.Proved.TheVariants.{Inside, Unbounded}
 use Rattle.effect_prover.specs.Table.{Table, row_at, address_at, instr_of, IsLeastTable}
 use Rattle.effect_prover.specs.Inside.{IsInside, IsInsideAt, AreInside, IsOutsideAt, IsFirstOutside}
-use Rattle.effect_prover.specs.Answer.{IsProvenTask, IsProven, IsUnbounded, IsUnprovenTask, IsTaskAnswer, IsUnprovenPhase, IsProversAnswer, RunsInside}
+use Rattle.effect_prover.specs.Answer.{IsProvenTask, IsProven, IsUnbounded, IsTaskAnswer, IsUnprovenPhase, IsProversAnswer, RunsInside}
 use Rattle.effect_prover.proofs.TableLemmas.{one-least}
 
 -- ---- one word
@@ -173,15 +172,6 @@ first-unbounded P number p core place pc good there at' earlier h =
         let proven : IsProvenTask P u.decl = subst (IsProvenTask P) (sym d.among.1.1) (tasks d.among.0 u.decl d.among.1.0) in
         proven-bounded P u.decl a b w proven u refl
 
--- the word that is named is a code word
-pub unproven-within : (P : ProgramParts) (tasks : List TaskDecl) (core place : ℕ) → IsUnprovenPhase P tasks core place → place < length P.code
-unproven-within P tasks core place h =
-    ⊎_elim
-    (λ (inside : place < length P.code). inside)
-    (λ (past : length P.code ≤ place).
-    absurd (none-some h.unproven.outside.instr (sym (ap read_instr (slice_get_past P.code place past)) ∙ h.unproven.outside.there)))
-    (cases_lt place (length P.code))
-
 pub tasks-more : (P : ProgramParts) (tasks : List TaskDecl) (n : ℕ) (t : TaskDecl) → t ≡ get_or tasks n t → n < length tasks → IsProvenTask P t
     → ((k : ℕ) (d : TaskDecl) → k < n → slice_get tasks k ≡ Some d → IsProvenTask P d) → (k : ℕ) (d : TaskDecl) → k < n + 1 → slice_get tasks k ≡ Some d → IsProvenTask P d
 tasks-more P tasks n t is within proven before k d l there =
@@ -194,11 +184,6 @@ tasks-more P tasks n t is within proven before k d l there =
 
 pub tasks-all : (P : ProgramParts) (tasks : List TaskDecl) (n : ℕ) → length tasks ≤ n → ((k : ℕ) (d : TaskDecl) → k < n → slice_get tasks k ≡ Some d → IsProvenTask P d) → All (IsProvenTask P) tasks
 tasks-all P tasks n past h k d within = h k (get_or tasks k d) (omega arith) (slice_get-get_or tasks k d within)
-
-pub tasks-first : (P : ProgramParts) (tasks : List TaskDecl) (n : ℕ) (t : TaskDecl) (place : ℕ) → t ≡ get_or tasks n t → n < length tasks → IsUnprovenTask P t place
-    → ((k : ℕ) (d : TaskDecl) → k < n → slice_get tasks k ≡ Some d → IsProvenTask P d) → IsUnprovenPhase P tasks t.core.0 place
-tasks-first P tasks n t place is within h before =
-    record { number = n; decl = t; there = slice_get-get_or tasks n t within ∙ ap Some (sym is); own = refl; unproven = h; before = before }
 
 pub phases-more : (P : ProgramParts) (phases : List Phase) (n : ℕ) (p : Phase) → phases ≡ P.phases → p ≡ get_or phases n p → n < length phases → All (IsProvenTask P) p.tasks
     → ((k : ℕ) (q : Phase) → k < n → slice_get P.phases k ≡ Some q → All (IsProvenTask P) q.tasks) → (k : ℕ) (q : Phase) → k < n + 1 → slice_get P.phases k ≡ Some q → All (IsProvenTask P) q.tasks

@@ -1,8 +1,8 @@
 -- Blocks: their leaders, and what the row at a leader tells of the other words.
-use Rattle.std.proofs.Common.{◌≡◌, ℕ, zero, suc, ◌+◌, ◌<◌, ◌≤◌, Bool, true, false, ◌⊎◌, inl, inr, List, length, slice_get, slice_set, Option, Some, None, refl, sym, ap, ◌∙◌, subst, arith, ⊎_elim}
+use Rattle.std.proofs.Common.{◌≡◌, ℕ, zero, suc, ◌+◌, ◌<◌, ◌≤◌, Bool, true, false, ◌⊎◌, inl, inr, List, length, slice_get, Option, Some, None, refl, sym, ap, ◌∙◌, subst, arith, ⊎_elim}
 use Rattle.std.proofs.lemmas.Bool.{true≢false, false≢true, cond-true, cond-false, cond_both, cases_eq, cases_lt, cases_order}
 use Rattle.std.proofs.lemmas.Option.{none-some}
-use Rattle.std.proofs.lemmas.List.{length-set, get_or-set_same, get_or-set_other, get_or_past}
+use Rattle.std.proofs.lemmas.List.{get_or_past}
 use Rattle.std.proofs.lemmas.List.FromFn.{length-map-range_with_len, get_or-map-range_with_len}
 use Rattle.region_table.specs.Program.{ProgramParts, IsProgram}
 use Rattle.region_table.specs.declared.declared.TaskDecl.{TaskDecl}
@@ -17,7 +17,7 @@ use Rattle.effect_prover.specs.declared.successors.Successors.{Successors}
 use Rattle.effect_prover.specs.Row.{IsRow, IsUnder}
 use Rattle.effect_prover.specs.Successors.{successors}
 use Rattle.effect_prover.specs.Table.{Table, row_at, address_at, instr_of, target_of, IsTable, IsPassedOn, IsClosed}
-use Rattle.effect_prover.specs.Blocks.{is_straight, IsStraightAt, is_leader, AreLed, HasMoreLeaders, leader_of, IsLast, row_behind, filled_row, filled}
+use Rattle.effect_prover.specs.Blocks.{is_straight, is_leader, AreLed, leader_of, IsLast, row_behind, filled_row, filled}
 use Rattle.effect_prover.specs.Sweep.{IsTableUnder}
 use Rattle.effect_prover.proofs.RowLemmas.{under-trans}
 use Rattle.effect_prover.proofs.SuccessorLemmas.{IsRowIn, successors-under, successors-rows}
@@ -77,44 +77,9 @@ last-same L n i j h k same =
 
 -- ---- marks
 
-pub led-more : (code : List ℕ) (n : ℕ) (L M : List Bool) → HasMoreLeaders L M → AreLed code n L → AreLed code n M
-led-more code n L M more h =
-    record {
-      words = more.words ∙ h.words;
-      first = λ l. more.all 0 (h.first l);
-      behind = λ i l inside.
-          ⊎_elim (λ (plain : IsStraightAt code i). inl plain) (λ (e : is_leader L (i + 1) ≡ true). inr (more.all (i + 1) e)) (h.behind i l inside);
-      aimed = λ i j instr l inside there aims. more.all j (h.aimed i j instr l inside there aims);
-    }
-
-pub led-next : (code : List ℕ) (n : ℕ) (L : List Bool) → AreLed code n L → (n + 1 < length code → IsStraightAt code n ⊎ (is_leader L (n + 1) ≡ true))
-    → ((j : ℕ) (instr : Instr) → j < length code → instr_of code n ≡ Some instr → target_of (address_at n) instr ≡ Some (address_at j) → is_leader L j ≡ true)
-    → AreLed code (n + 1) L
-led-next code n L h behind aimed =
-    record {
-      words = h.words;
-      first = h.first;
-      behind = λ i l inside.
-          ⊎_elim
-          (λ (here : i ≡ n). subst (λ (k : ℕ). IsStraightAt code k ⊎ (is_leader L (k + 1) ≡ true)) (sym here) (behind (subst (λ (k : ℕ). k + 1 < length code) here inside)))
-          (λ (apart : i ≡ n → ⊥). h.behind i (omega arith) inside)
-          (cases_eq i n);
-      aimed = λ i j instr l inside there aims.
-          ⊎_elim
-          (λ (here : i ≡ n).
-          aimed j instr inside (subst (λ (k : ℕ). instr_of code k ≡ Some instr) here there) (subst (λ (k : ℕ). target_of (address_at k) instr ≡ Some (address_at j)) here aims))
-          (λ (apart : i ≡ n → ⊥). h.aimed i j instr (omega arith) inside there aims)
-          (cases_eq i n);
-    }
-
 pub led-first : (code : List ℕ) (L : List Bool) → length L ≡ length code → (0 < length L → is_leader L 0 ≡ true) → AreLed code 0 L
 led-first code L words first =
     record { words = words; first = λ l. first (omega arith); behind = λ i l. absurd (omega arith); aimed = λ i j instr l. absurd (omega arith) }
-
--- a straight instruction stands before a word that isn't a leader
-pub plain-inside : (code : List ℕ) (L : List Bool) (i : ℕ) → AreLed code (length code) L → i + 1 < length code → is_leader L (i + 1) ≡ false → IsStraightAt code i
-plain-inside code L i led inside none =
-    ⊎_elim (λ (plain : IsStraightAt code i). plain) (λ (y : is_leader L (i + 1) ≡ true). absurd (true≢false (sym y ∙ none))) (led.behind i (omega arith) inside)
 
 -- a word is the last of its block where the next one is a leader, or isn't there
 pub last-here : (L : List Bool) (n i : ℕ) → i < n → length L ≡ n → (((i + 1 < length L) × (is_leader L (i + 1) ≡ false)) → ⊥) → IsLast L n i
@@ -124,26 +89,6 @@ last-here L n i within words none =
       behind = λ l.
           ⊎_elim (λ (y : is_leader L (i + 1) ≡ true). y) (λ (e : is_leader L (i + 1) ≡ false). absurd (none (omega arith, e))) (is-either (is_leader L (i + 1)));
     }
-
-pub more-itself : (L : List Bool) → HasMoreLeaders L L
-more-itself L = record { words = refl; all = λ i e. e }
-
-pub more-trans : (L M N : List Bool) → HasMoreLeaders L M → HasMoreLeaders M N → HasMoreLeaders L N
-more-trans L M N h k = record { words = k.words ∙ h.words; all = λ i e. k.all i (h.all i e) }
-
-pub more-set : (L : List Bool) (place : ℕ) → place < length L → HasMoreLeaders L (slice_set L place true)
-more-set L place within =
-    record {
-      words = length-set L place true;
-      all = λ i e.
-          ⊎_elim
-          (λ (here : i ≡ place). subst (λ (k : ℕ). is_leader (slice_set L place true) k ≡ true) (sym here) (get_or-set_same L place true false within))
-          (λ (apart : i ≡ place → ⊥). get_or-set_other L place i true false apart ∙ e)
-          (cases_eq i place);
-    }
-
-pub leads-set : (L : List Bool) (place : ℕ) → place < length L → is_leader (slice_set L place true) place ≡ true
-leads-set L place within = get_or-set_same L place true false within
 
 -- ---- straight instructions
 

@@ -153,12 +153,6 @@ different-under row all a b p =
     (λ f. absurd (true≢false (sym (same_one (range_of row a) (range_of row b) (range_of all a) (range_of all b) p.first p.second p.first_in p.second_in f) ∙ e)))
     (λ f. p.under))
 
-different-within : (row all : Row) (a b : ℕ) → IsBelow row all → IsUnder (where_different row a b) (Some all)
-different-within row all a b h =
-    cond_both (is_one (range_of row a) && is_one (range_of row b) && (range_of row a).lo == (range_of row b).lo) None (Some row) (λ (z : Option Row). IsUnder z (Some all))
-    (λ e. tt)
-    (λ e. h)
-
 less-within : (row all : Row) (a b : ℕ) → ArePair row all a b → IsUnder (where_less row a b) (Some all)
 less-within row all a b p =
     narrowed-within row all a (below (range_of row a) (range_of row b)) b (above (range_of row b) (range_of row a)) p.row_is p.under (omega arith)

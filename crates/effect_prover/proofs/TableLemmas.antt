@@ -45,9 +45,6 @@ pub covers-grows : (t u : Table) (address : ℕ) (given : Option Row) → length
 covers-grows t u address given same grows h i within at' =
     under-trans given (row_at t i) (row_at u i) (h i (omega arith) at') (grows i)
 
-pub covers-less : (t : Table) (address : ℕ) (less given : Option Row) → IsUnder less given → Covers t address given → Covers t address less
-covers-less t address less given h k i within at' = under-trans less given (row_at t i) h (k i within at')
-
 pub passed-grows : (t u : Table) (pc : ℕ) (instr : Instr) (s : Successors) → length u ≡ length t → IsTableUnder t u → IsPassedOn t pc instr s → IsPassedOn u pc instr s
 passed-grows t u pc instr s same grows h =
     record {
@@ -240,22 +237,6 @@ put-given P d heads old new was place address given cursor next known shape mark
 
 -- ---- a word passes its row on
 
--- no leader that is pending stands at the cursor
-pub swept-skip : (P : ProgramParts) (d : TaskDecl) (L : List Bool) (t : Table) (p : List Bool) (cursor : ℕ) → IsSwept P d L t p cursor
-    → (is_leader L cursor ≡ true → row_is_pending p cursor ≡ false) → IsSwept P d L t p (cursor + 1)
-swept-skip P d L t p cursor h none =
-    record {
-      shape = h.shape;
-      least = h.least;
-      marks = h.marks;
-      passed = h.passed;
-      before = λ i l e.
-          ⊎_elim
-          (λ (s : i ≡ cursor). subst (λ (k : ℕ). row_is_pending p k ≡ false) (sym s) (none (subst (λ (k : ℕ). is_leader L k ≡ true) s e)))
-          (λ (apart : i ≡ cursor → ⊥). h.before i (omega arith) e)
-          (cases_eq i cursor);
-    }
-
 -- the leader at the cursor isn't pending any more, as its block has passed its row on
 swept-next : (P : ProgramParts) (d : TaskDecl) (L : List Bool) (t : Table) (p : List Bool) (cursor : ℕ) → IsSwept P d L t p cursor → cursor < length p
     → ((i : ℕ) → IsLast L (length P.code) i → leader_of L i ≡ cursor → HasPassedOn P L t i) → IsSwept P d L t (slice_set p cursor false) (cursor + 1)
@@ -403,15 +384,6 @@ unmarked n i =
     (λ (past : n ≤ i). get_or_past (replicate n false) i false (let l : length (replicate n false) ≡ n = length-replicate n false in omega arith))
     (cases_lt i n)
 
--- the empty table
-pub empty-table : (P : ProgramParts) (d : TaskDecl) (n : ℕ) → n ≡ length P.code → IsTable P d (replicate n None)
-empty-table P d n e =
-    record {
-      words = length-replicate n None ∙ e;
-      rows = λ i row is. absurd (none-some row (sym (replicated n i) ∙ is));
-      heads = λ i row head is. absurd (none-some row (sym (replicated n i) ∙ is));
-    }
-
 head-within : (code : List ℕ) (i : ℕ) (h : IsLoopHead code i) → h.place < length code
 head-within code i h =
     ⊎_elim
@@ -525,9 +497,6 @@ swept-least P d L t p cursor good leads h past entry =
         (cases_lt i n)
 
 -- ---- heads
-
-pub mark-first : (code : List ℕ) (n : ℕ) → AreMarked code 0 (replicate n false)
-mark-first code n i l = (λ e. absurd (true≢false (sym e ∙ unmarked n i)), λ h. absurd (let b = h.before in omega arith))
 
 pub mark-last : (code : List ℕ) (heads : List Bool) → length heads ≡ length code → AreMarked code (length code) heads → HasHeads code heads
 mark-last code heads same h =

@@ -1,4 +1,5 @@
-ghost use Rattle.std.specs.Prelude.{◌≡◌, IfOk};
+ghost use Rattle.std.specs.Prelude.{◌≡◌, ◌++◌, IfOk, OnOk};
+ghost use Rattle.effect_prover.specs.declared.proved.Proved.TheVariants.{Unbounded as UnboundedAt};
 ghost use Rattle.effect_prover.specs.Answer.{proved_text};
 
 use dn_base::{CoreId, Memory, PhaseId};
@@ -20,26 +21,39 @@ pub enum Proved {
     },
 }
 
+/// Adds the line of an answer that tells the place of an instruction.
+#[tactic(auto, unfolding(crate::specs::Answer::proved_text))]
+fn push_unbounded(out: &mut Vec<u8>, phase: PhaseId, core: CoreId, pc: u32) -> Result<(), Memory>
+    ensures { OnOk result (out.new.items ≡ out.old.items ++ proved_text (UnboundedAt phase core pc)) }
+{
+    push(out, b"unbounded ")?;
+    push_decimal(out, phase.0)?;
+    push(out, b" ")?;
+    push_decimal(out, core.0)?;
+    push(out, b" ")?;
+    push_hexadecimal(out, pc)?;
+    push(out, b"\n")
+}
+
+/// Adds the line of an answer.
+#[tactic(auto, unfolding(crate::specs::Answer::proved_text))]
+fn push_answer(out: &mut Vec<u8>, answer: &Proved) -> Result<(), Memory>
+    ensures { OnOk result (out.new.items ≡ out.old.items ++ proved_text answer.now) }
+{
+    match answer {
+        Proved::Inside => push(out, b"proved inside\n"),
+        Proved::Unbounded { phase, core, pc } => push_unbounded(out, *phase, *core, *pc),
+    }
+}
+
 /// The line of an answer: `proved inside`, or `unbounded`, the phase, the core, and the address in base 16.
 ///
 /// # Errors
 /// `Memory` where there is no room for the text.
-#[tactic(auto, unfolding(crate::specs::Answer::proved_text))]
 pub fn prove_text(alloc: Global, answer: &Proved) -> Result<Vec<u8>, Memory>
     ensures { IfOk result (λ text. text.items ≡ proved_text answer.now) }
 {
     let mut out = Vec::new(alloc);
-    match answer {
-        Proved::Inside => push(&mut out, b"proved inside\n")?,
-        Proved::Unbounded { phase, core, pc } => {
-            push(&mut out, b"unbounded ")?;
-            push_decimal(&mut out, phase.0)?;
-            push(&mut out, b" ")?;
-            push_decimal(&mut out, core.0)?;
-            push(&mut out, b" ")?;
-            push_hexadecimal(&mut out, *pc)?;
-            push(&mut out, b"\n")?;
-        }
-    }
+    push_answer(&mut out, answer)?;
     Ok(out)
 }

@@ -54,8 +54,34 @@ fn place_is_inside(
     is_inside(alloc, program, task, row, &instr, usable)
 }
 
-/// The first word of a table whose instruction isn't inside. The rows are those at the leaders.
+/// The first word of a table whose instruction isn't inside, with these sets kept. The rows are those at the leaders.
 #[tactic(auto, using(crate::proofs::AnswerLemmas::answers))]
+fn first_outside_by(
+    alloc: Global,
+    program: &Program,
+    task: &TaskDecl,
+    leaders: &[bool],
+    rows: &[Option<Row>],
+    usable: &mut UsableSets,
+) -> Result<Option<usize>, Memory>
+    requires program { IsProgram program.now }
+    requires led { AreLed program.now.code (length program.now.code) leaders.now }
+    requires words { length rows.now ≡ length program.now.code }
+    requires rows { (i : ℕ) (row : Row) → row_at (filled program.now leaders.now rows.now) i ≡ Some row → IsRow row }
+    requires kept { AreUsableKept task.now usable.old }
+    ensures { IfOk result (IsFirstOutside program.now task.now (filled program.now leaders.now rows.now)) }
+{
+    let mut row = None;
+    for place in 0..rows.len() {
+        row = row_here(program, leaders, rows, place, row);
+        if !place_is_inside(alloc, program, task, leaders, rows, &row, place, usable)? {
+            return Ok(Some(place));
+        }
+    }
+    Ok(None)
+}
+
+/// The first word of a table whose instruction isn't inside. The rows are those at the leaders.
 fn first_outside(
     alloc: Global,
     program: &Program,
@@ -70,23 +96,7 @@ fn first_outside(
     ensures { IfOk result (IsFirstOutside program.now task.now (filled program.now leaders.now rows.now)) }
 {
     let mut usable = UsableSets::none();
-    let mut row = None;
-    for place in 0..rows.len() {
-        row = row_here(program, leaders, rows, place, row);
-        if !place_is_inside(
-            alloc,
-            program,
-            task,
-            leaders,
-            rows,
-            &row,
-            place,
-            &mut usable,
-        )? {
-            return Ok(Some(place));
-        }
-    }
-    Ok(None)
+    first_outside_by(alloc, program, task, leaders, rows, &mut usable)
 }
 
 /// The first word of a task's least table whose instruction isn't inside; that table is kept.

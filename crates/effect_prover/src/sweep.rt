@@ -1,5 +1,5 @@
 //! The sweep over the words of a table that finds the least closed one.
-ghost use Rattle.std.specs.Prelude.{◌≡◌, ◌↔◌, ℕ, ◌+◌, ◌-◌, ◌*◌, ◌<◌, ◌≤◌, ◌^◌, true, false, Decides, Some, None, length, replicate, IfOk, IfSome, IfNone, option_copied};
+ghost use Rattle.std.specs.Prelude.{◌≡◌, ◌↔◌, ℕ, ◌+◌, ◌-◌, ◌*◌, ◌<◌, ◌≤◌, ◌^◌, true, false, Decides, Some, None, length, replicate, IfOk, OnOk, IfSome, IfNone, option_copied};
 ghost use Rattle.region_table.specs.Program.{ProgramParts, IsProgram};
 ghost use Rattle.rv_isa.specs.Range.{IsEncodable, HasRegisters};
 ghost use Rattle.effect_prover.specs.Row.{start_row, IsRow};
@@ -268,6 +268,27 @@ fn sweep(
     }
 }
 
+/// Makes empty rows those of a task's least closed table at the leaders of its blocks.
+fn fill_rows(
+    alloc: Global,
+    program: &Program,
+    task: &TaskDecl,
+    heads: &[bool],
+    leaders: &[bool],
+    rows: &mut [Option<Row>],
+) -> Result<(), Memory>
+    requires program { IsProgram program.now }
+    requires heads { HasHeads program.now.code heads.now }
+    requires leaders { HasLeaders program.now task.now leaders.now }
+    requires argument { task.now.arg < 2 ^ 32 }
+    requires rows { rows.old ≡ replicate (length program.now.code) None }
+    ensures { OnOk result (IsLeastTable program.now task.now (filled program.now leaders.now rows.new)) }
+{
+    let mut pending: Vec<bool> = vec![in alloc; false; heads.len()]?;
+    sweep(program, task, heads, leaders, rows, pending.as_mut_slice());
+    Ok(())
+}
+
 /// The rows of a task's least closed table at the leaders of its blocks; the other rows follow from these.
 ///
 /// A block is passed again only if its leader's row grew. README.md says how often that can be.
@@ -291,15 +312,7 @@ pub(crate) fn least_table(
     // for the proof alone: the read says that the argument has 32 bits
     let _argument = task.arg;
     let mut rows: Vec<Option<Row>> = vec![in alloc; None; words]?;
-    let mut pending: Vec<bool> = vec![in alloc; false; words]?;
-    sweep(
-        program,
-        task,
-        heads,
-        leaders,
-        rows.as_mut_slice(),
-        pending.as_mut_slice(),
-    );
+    fill_rows(alloc, program, task, heads, leaders, rows.as_mut_slice())?;
     Ok(rows)
 }
 

@@ -2,7 +2,7 @@ use Rattle.std.proofs.Common.{◌≡◌, ◌<◌, ℕ}
 use Rattle.effect_prover.specs.Blocks.{filled_before, filled}
 use Rattle.effect_prover.specs.Inside.{IsInsideAt}
 use Rattle.effect_prover.specs.Stretch.{AreUsableKept}
-use Rattle.effect_prover.proofs.prover.first_outside.Given as goal
+use Rattle.effect_prover.proofs.prover.first_outside_by.Given as goal
 
 abbrev pub invariant-loop-place : goal.invariant-loop-place
 invariant-loop-place l =
