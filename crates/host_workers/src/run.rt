@@ -121,12 +121,12 @@ fn ended(alloc: Global, machine: &Machine, log: &mut Log) -> Result<Ending, Memo
 ///
 /// # Errors
 /// `Memory` where there is no room for the record.
-fn recorded(alloc: Global, machine: Machine, mut log: Log) -> Result<RunRecord, Memory>
-    requires far { IsRunSoFar machine.state.setting machine log }
-    requires over { IsOver machine.state }
-    ensures { IfOk result (IsCoherentRun (initial_state machine.state.setting)) }
+fn recorded(alloc: Global, machine: &Machine, mut log: Log) -> Result<RunRecord, Memory>
+    requires far { IsRunSoFar machine.now.state.setting machine.now log }
+    requires over { IsOver machine.now.state }
+    ensures { IfOk result (IsCoherentRun (initial_state machine.now.state.setting)) }
 {
-    let ending = ended(alloc, &machine, &mut log)?;
+    let ending = ended(alloc, machine, &mut log)?;
     Ok(log.record(ending))
 }
 
@@ -149,7 +149,10 @@ fn recorded_run<R: Threads + Wait + Sync, G: Gate + Sync>(
     ensures { IfOk result (IsCoherentRun (initial_state machine.state.setting)) }
 {
     let last = make_rounds(rt, alloc, machine, workers, seed, gate, &mut log)?;
-    recorded(alloc, last, log)
+    let record = recorded(alloc, &last, log);
+    // for the prover alone: one call drops the machine, in place of the drops of all its parts
+    drop(last);
+    record
 }
 
 /// The whole run of a machine by 1 to 16 workers, in rounds. If an event may come after a round, there is another round, with a

@@ -1,13 +1,46 @@
-use Rattle.std.proofs.Common.{sym, ap, ◌∙◌, subst}
+use Rattle.std.proofs.Common.{◌<◌, sym, ap, ◌∙◌, subst}
 use Rattle.registration_protocol.specs.Setting.{setting}
 use Rattle.dn_base.specs.declared.ids.CoreId.{CoreId}
 use Rattle.registration_protocol.specs.Fit.{Fits}
+use Rattle.stamped_mail.specs.Stamps.{has_numbers_left}
 use Rattle.round_rules.specs.Passes.{Held}
 use Rattle.host_workers.specs.Crews.{held_of}
 use Rattle.host_workers.specs.Work.{HasTaken, HasMadeOwn}
 use Rattle.host_workers.proofs.Turning.{serves, stays, moves-none, from-held, turns-partly}
 use Rattle.host_workers.proofs.Calls.{at-exit}
 use Rattle.host_workers.proofs.serving.serve_core.Goals as goal
+
+pub take_mail-requires-clause-owned : goal.take_mail-requires-clause-owned
+take_mail-requires-clause-owned g c =
+    let C = setting c.args.context.now in record {
+      inside = subst (λ (core : CoreId). core.0 < C.shape.cores) (sym c.reserve.ensures.core) c.requires.owned.inside;
+      fits = subst (Fits C) (sym (ap (λ (h : Held). h.node) c.reserve.ensures.held)) c.requires.owned.fits;
+    }
+
+pub take_mail-requires-clause-goes : goal.take_mail-requires-clause-goes
+take_mail-requires-clause-goes g c =
+    ap (λ (h : Held). has_numbers_left h.clock h.next) c.reserve.ensures.held ∙ (sym c.has_numbers_left.ensures ∙ c.if-not-has_numbers_left.false)
+
+pub make_own-requires-clause-may : goal.make_own-requires-clause-may
+make_own-requires-clause-may g c = record {
+  context = c.requires.may.context;
+  pass_is = c.take_mail.ensures.pass.0;
+  ports = c.requires.may.ports;
+  banks = c.requires.may.banks;
+}
+
+pub make_own-requires-clause-owned : goal.make_own-requires-clause-owned
+make_own-requires-clause-owned g c =
+    let C = setting c.args.context.now in record {
+      inside = subst (λ (core : CoreId). core.0 < C.shape.cores) (sym (c.take_mail.ensures.core ∙ c.reserve.ensures.core)) c.requires.owned.inside;
+      fits = c.in_ok-handled.ensures.fits;
+    }
+
+pub returns-clause-pass : goal.returns-clause-pass
+returns-clause-pass g c = (c.make_own.ensures.pass.0, c.make_own.ensures.pass.1 ∙ c.take_mail.ensures.pass.1)
+
+pub returns-in_err-own-clause-pass : goal.returns-in_err-own-clause-pass
+returns-in_err-own-clause-pass g c = (c.make_own.ensures.pass.0, c.make_own.ensures.pass.1 ∙ c.take_mail.ensures.pass.1)
 
 pub returns-then-not-has_numbers_left-clause-served : goal.returns-then-not-has_numbers_left-clause-served
 returns-then-not-has_numbers_left-clause-served g c =

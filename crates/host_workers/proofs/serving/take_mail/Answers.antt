@@ -1,8 +1,8 @@
-use Rattle.std.proofs.Common.{refl, sym, subst}
+use Rattle.std.proofs.Common.{refl, sym, subst, ◌∙◌}
 use Rattle.registration_protocol.specs.Setting.{setting}
 use Rattle.host_workers.specs.Crews.{held_of}
 use Rattle.host_workers.specs.Work.{IsMoved, HasDonePartly}
-use Rattle.host_workers.proofs.Turning.{took-some, took-partly, moves-none}
+use Rattle.host_workers.proofs.Turning.{took-none, took-some, took-partly, moves-none}
 use Rattle.host_workers.proofs.Stamping.{takes-early}
 use Rattle.host_workers.proofs.Calls.{at-exit}
 use Rattle.host_workers.proofs.serving.take_mail.Goals as goal
@@ -11,6 +11,17 @@ pub handle-sent-requires-clause-early : goal.handle-sent-requires-clause-early
 handle-sent-requires-clause-early g c =
     let call = rw c.in-Some.is at c.in_ok-posted.ensures.call in
     takes-early call.call.there c.args.pick c.in-Some.posted call.call.answered
+
+pub returns-in_default-clause-taken : goal.returns-in_default-clause-taken
+returns-in_default-clause-taken g c =
+    let made = rw c.in_default.is at c.in_ok-posted.ensures.made in
+    took-none (setting c.args.context.now) c.args.owned.now.core c.args.pick c.args.pass.now c.take.new.pass (held_of c.args.owned.now) made c.in_ok-posted.ensures.pass.1
+
+pub returns-clause-pass : goal.returns-clause-pass
+returns-clause-pass g c = (c.emit.ensures.pass.0, c.emit.ensures.pass.1 ∙ c.take.ensures.pass.1)
+
+pub returns-in_err-emit-clause-pass : goal.returns-in_err-emit-clause-pass
+returns-in_err-emit-clause-pass g c = (c.emit.ensures.pass.0, c.emit.ensures.pass.1 ∙ c.take.ensures.pass.1)
 
 pub returns-clause-taken : goal.returns-clause-taken
 returns-clause-taken g c =
