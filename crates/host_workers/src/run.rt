@@ -185,6 +185,12 @@ pub fn run_workers<R: Threads + Wait + Sync, G: Gate + Sync>(
     keep_freed_memory(alloc);
     // for the proof alone: no event has come, so the machine is the initial one, with which a run begins
     a_machine_is_kept(&machine);
-    let log = machine.log(alloc)?;
-    recorded_run(rt, alloc, machine, workers, seed, gate, log)
+    match machine.log(alloc) {
+        Ok(log) => recorded_run(rt, alloc, machine, workers, seed, gate, log),
+        Err(memory) => {
+            // for the prover alone: one call drops the machine, in place of the drops of all its parts
+            drop(machine);
+            Err(memory)
+        }
+    }
 }

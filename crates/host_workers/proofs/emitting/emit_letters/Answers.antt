@@ -21,6 +21,9 @@ loop-core-preserved g c =
 pub emit-requires-clause-early : goal.emit-requires-clause-early
 emit-requires-clause-early g c = subst (λ o. IfSome o IsEarly) (sym c.letter.ensures) (letter-early c.args.handled.now c.loop-core.core c.requires.early)
 
+pub returns-in_err-emit-clause-pass : goal.returns-in_err-emit-clause-pass
+returns-in_err-emit-clause-pass g c = (c.emit.ensures.pass.0, c.emit.ensures.pass.1 ∙ c.loop-core.invariant.pass.1)
+
 pub returns-in_err-emit-clause-begun : goal.returns-in_err-emit-clause-begun
 returns-in_err-emit-clause-begun g c =
     at-exit _ (subst (λ q. HasBegunPosts c.args.shape c.args.pass.now q (keeper_done c.args.shape.cores c.args.handled.now).sent) (sym c.in_err-emit.ensures.same)

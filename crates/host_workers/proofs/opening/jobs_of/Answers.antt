@@ -1,4 +1,4 @@
-use Rattle.std.proofs.Common.{◌≡◌, ◌++◌, [], ◌∷◌, length, map, ap, subst, ◌∙◌, arith, length-append, refl}
+use Rattle.std.proofs.Common.{◌≡◌, ◌++◌, [], ◌∷◌, length, map, ap, subst, arith, length-append, refl}
 use Rattle.std.proofs.lemmas.List.{nil_from_length}
 use Rattle.host_workers.specs.Opening.{crew_of, pass_of}
 use Rattle.host_workers.proofs.MadeObjects.{made-more}

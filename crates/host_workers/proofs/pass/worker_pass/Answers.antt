@@ -1,4 +1,4 @@
-use Rattle.std.proofs.Common.{refl, subst, arith}
+use Rattle.std.proofs.Common.{refl, ◌∙◌, subst, arith}
 use Rattle.region_table.specs.Program.{IsProgram}
 use Rattle.registration_protocol.specs.Setting.{setting}
 use Rattle.host_workers.specs.declared.crew.BankLog.{BankLog}
@@ -22,6 +22,33 @@ step_banks-requires-clause-most g c =
     let C = setting c.args.context.now in
     let few = rising-few (λ (b : BankLog). b.bank.0) c.args.crew.now.banks.items 0 C.shape.banks c.requires.crew.banks_rise (λ k d within. omega arith) c.requires.crew.banks in
     omega (arith, few, c.requires.may.context.most_banks)
+
+pub step_banks-requires-clause-may : goal.step_banks-requires-clause-may
+step_banks-requires-clause-may g c = record {
+  context = c.requires.may.context;
+  pass_is = c.serve_cores.ensures.pass.0;
+  ports = c.requires.may.ports;
+  banks = c.requires.may.banks;
+}
+
+pub keep-requires : goal.keep-requires
+keep-requires g c = record {
+  may = record {
+    context = c.requires.may.context;
+    pass_is = c.step_banks.ensures.pass.0;
+    ports = c.requires.may.ports;
+    banks = c.requires.may.banks;
+  };
+}
+
+pub returns-clause-pass : goal.returns-clause-pass
+returns-clause-pass g c = (c.keep.ensures.pass.0, c.keep.ensures.pass.1 ∙ (c.step_banks.ensures.pass.1 ∙ c.serve_cores.ensures.pass.1))
+
+pub returns-in_err-kept-clause-pass : goal.returns-in_err-kept-clause-pass
+returns-in_err-kept-clause-pass g c = (c.keep.ensures.pass.0, c.keep.ensures.pass.1 ∙ (c.step_banks.ensures.pass.1 ∙ c.serve_cores.ensures.pass.1))
+
+pub returns-in_err-stepped-clause-pass : goal.returns-in_err-stepped-clause-pass
+returns-in_err-stepped-clause-pass g c = (c.step_banks.ensures.pass.0, c.step_banks.ensures.pass.1 ∙ c.serve_cores.ensures.pass.1)
 
 pub returns-clause-crew : goal.returns-clause-crew
 returns-clause-crew g c =

@@ -25,6 +25,17 @@ loop-node-preserved c =
           i o (subst (λ l. slice_get l i ≡ Some o) items there);
     }
 
+pub returns-clause-count : goal.returns-clause-count
+returns-clause-count c =
+    let had = c.loop-node.invariant in
+    let gives = c.into_iter-node-iterator.ensures.into_iter_gives in
+    let whole = YieldsList-end (YieldsList-from_vec {s = c.into_iter-node-iterator.result} c.args.nodes.items gives.0 (gives.1 ∙ c.args.nodes.ok.0)) c.loop-node.yielded c.loop-node.node-iterator c.loop-node.yielded_by c.next.result c.next.new.self c.in-None.is c.next.ensures.steps in
+    let all : map node_of c.loop-node.cores.items ≡ c.args.nodes.items = had.nodes ∙ (sym (map-id c.loop-node.yielded) ∙ whole.0) in
+    sym (length-map c.loop-node.cores.items node_of) ∙ ap length all
+
+pub returns-clause-places : goal.returns-clause-places
+returns-clause-places c = λ i o there. (c.loop-node.invariant.each i o there).0
+
 pub returns-clause-fresh : goal.returns-clause-fresh
 returns-clause-fresh c = λ i o there.
     let had = c.loop-node.invariant in

@@ -5,9 +5,9 @@ use Rattle.host_workers.proofs.RunSoFar.{begins}
 use Rattle.host_workers.proofs.run.run_workers.Goals as goal
 
 pub recorded_run-requires-clause-far : goal.recorded_run-requires-clause-far
-recorded_run-requires-clause-far g c κs within = rw (c.in_ok-log.ensures) (begins c.args.machine c.a_machine_is_kept.ensures c.requires.made)
+recorded_run-requires-clause-far g c κs within = rw (c.in-Ok.ensures) (begins c.args.machine c.a_machine_is_kept.ensures c.requires.made)
 
-pub returns : goal.returns
-returns g c =
+pub returns-in-Ok : goal.returns-in-Ok
+returns-in-Ok g c =
     let first = c.a_machine_is_kept.ensures.first c.requires.made in
     subst (λ (S : State). IfOk c.recorded_run.result (IsCoherentRun S)) (sym first) c.recorded_run.ensures

@@ -65,6 +65,9 @@ returns-clause-served g c =
     subst (λ l. HaveDone (IsCoreServed C) C c.args.pass.now c.loop-place.pass l c.loop-place.cores.items c.loop-place.made) all
     (subst (λ l. HaveDone (IsCoreServed C) C c.args.pass.now c.loop-place.pass (take c.loop-place.place c.args.cores.now.items) l c.loop-place.made) now had.done)
 
+pub returns-in_err-events-clause-pass : goal.returns-in_err-events-clause-pass
+returns-in_err-events-clause-pass g c = (c.serve_core.ensures.pass.0, c.serve_core.ensures.pass.1 ∙ c.loop-place.invariant.pass.1)
+
 pub returns-in_err-events-clause-part : goal.returns-in_err-events-clause-part
 returns-in_err-events-clause-part g c =
     let had = c.loop-place.invariant in

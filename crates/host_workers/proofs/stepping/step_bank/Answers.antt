@@ -17,6 +17,12 @@ emit-requires-clause-early g c =
     let call = rw c.in-Some.is at c.in_ok-handled.ensures.call in
     reply-early call.call.there c.args.pick c.in-Some.handled call.call.answered
 
+pub returns-clause-pass : goal.returns-clause-pass
+returns-clause-pass g c = (c.emit.ensures.pass.0, c.emit.ensures.pass.1 ∙ c.bank_step.ensures.pass.1)
+
+pub returns-in_err-emit-clause-pass : goal.returns-in_err-emit-clause-pass
+returns-in_err-emit-clause-pass g c = (c.emit.ensures.pass.0, c.emit.ensures.pass.1 ∙ c.bank_step.ensures.pass.1)
+
 pub returns-clause-stepped : goal.returns-clause-stepped
 returns-clause-stepped g c =
     let made = rw c.in-Some.is at c.in_ok-handled.ensures.made in

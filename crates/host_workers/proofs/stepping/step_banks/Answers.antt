@@ -64,6 +64,9 @@ returns-clause-stepped g c =
     subst (λ l. HaveDone (IsStepped C) C c.args.pass.now c.loop-place.pass l c.loop-place.banks.items c.loop-place.made) all
     (subst (λ l. HaveDone (IsStepped C) C c.args.pass.now c.loop-place.pass (take c.loop-place.place c.args.banks.now.items) l c.loop-place.made) now had.done)
 
+pub returns-in_err-events-clause-pass : goal.returns-in_err-events-clause-pass
+returns-in_err-events-clause-pass g c = (c.step_bank.ensures.pass.0, c.step_bank.ensures.pass.1 ∙ c.loop-place.invariant.pass.1)
+
 pub returns-in_err-events-clause-part : goal.returns-in_err-events-clause-part
 returns-in_err-events-clause-part g c =
     let had = c.loop-place.invariant in

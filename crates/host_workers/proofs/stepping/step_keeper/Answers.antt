@@ -25,6 +25,12 @@ emit_letters-requires-clause-early g c =
     let call = rw c.in-Some.is at c.in_ok-handled.ensures.call in
     note-early call.call.there c.args.pick c.in-Some.handled call.call.answered
 
+pub returns-clause-pass : goal.returns-clause-pass
+returns-clause-pass g c = (c.emit_letters.ensures.pass.0, c.emit_letters.ensures.pass.1 ∙ c.keeper_step.ensures.pass.1)
+
+pub returns-in_err-emit_letters-clause-pass : goal.returns-in_err-emit_letters-clause-pass
+returns-in_err-emit_letters-clause-pass g c = (c.emit_letters.ensures.pass.0, c.emit_letters.ensures.pass.1 ∙ c.keeper_step.ensures.pass.1)
+
 pub returns-clause-stepped : goal.returns-clause-stepped
 returns-clause-stepped g c =
     let made = rw c.in-Some.is at c.in_ok-handled.ensures.made in

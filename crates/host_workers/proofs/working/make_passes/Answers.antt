@@ -20,6 +20,9 @@ worker_pass-requires-clause-may g c = record {
   banks = c.requires.may.banks;
 }
 
+pub returns-then-idle-ge-IDLE_PASSES-clause-pass : goal.returns-then-idle-ge-IDLE_PASSES-clause-pass
+returns-then-idle-ge-IDLE_PASSES-clause-pass g c = (c.worker_pass.ensures.pass.0, c.worker_pass.ensures.pass.1 ∙ c.loop-passes.invariant.pass.1)
+
 pub returns-then-idle-ge-IDLE_PASSES-clause-worked : goal.returns-then-idle-ge-IDLE_PASSES-clause-worked
 returns-then-idle-ge-IDLE_PASSES-clause-worked g c =
     let had = c.loop-passes.invariant in
