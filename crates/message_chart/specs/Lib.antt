@@ -1,3 +1,4 @@
+pub mod Pieces
 pub mod Marks
 pub mod Places
 pub mod Labels

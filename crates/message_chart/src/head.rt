@@ -1,14 +1,18 @@
 //! What stands before the rows: the document's head, the bands of the phases and the columns.
-ghost use Rattle.std.specs.Prelude.{◌≡◌, ◌≤◌, ◌++◌, flat_map, None, OnOk};
+ghost use Rattle.std.specs.Prelude.{◌≡◌, ◌≤◌, ◌++◌, codes, flat_map, None, OnOk};
 ghost use Rattle.std.specs.List.{range_with_len};
-ghost use Rattle.message_chart.specs.Picture.{band, bands, bank_lane, core_lane, description, ground, heading, is_of_phase, lane, lanes, legend, meaning, opening, phase_begin, phase_if_new, sizes, style, svg_begin, title_element, view_box, view_box_begin};
+ghost use Rattle.message_chart.specs.Marks.{words_at};
+ghost use Rattle.message_chart.specs.Labels.{actor_name, machine_text, named, title_text};
+ghost use Rattle.message_chart.specs.Picture.{band, bands, bank_lane, core_lane, description, ground, heading, is_of_phase, lane, lanes, legend, meaning, opening, phase_begin, phase_if_new, sizes, style, svg_begin, title_element, view_box, view_box_begin, height, width};
 
 use crate::chart::{Chart, ChartRow};
-use crate::labels::{push_actor, push_machine, push_named, push_title};
+use crate::labels::{push_actor, push_machine, push_title};
 use crate::marks::{
     Point, TOP, push_attribute, push_level, push_rectangle, push_upright, push_words_begin,
     push_words_end, y_of,
 };
+use crate::pieces::Piece::{Bytes, Number};
+use crate::pieces::push_pieces;
 use crate::places::MOST_BANKS;
 use dn_base::{BankId, CoreId, Memory, PhaseId};
 use message_net::Actor;
@@ -118,17 +122,51 @@ fn push_ground(out: &mut Vec<u8>, width: u64, height: u64) -> Result<(), Memory>
     push(out, b"/>\n")
 }
 
-/// Adds the title and the machine's size.
+/// Adds the title.
+fn push_title_words(out: &mut Vec<u8>, chart: &Chart) -> Result<(), Memory>
+    ensures { OnOk result (out.new.items ≡ out.old.items ++ words_at (codes "title") 8 22 (title_text chart.now)) }
+{
+    push_words_begin(out, b"title", Point { x: 8, y: 22 })?;
+    push_title(out, chart)?;
+    push_words_end(out)
+}
+
+/// Adds the machine's size.
+fn push_size_words(out: &mut Vec<u8>, chart: &Chart) -> Result<(), Memory>
+    ensures { OnOk result (out.new.items ≡ out.old.items ++ words_at (codes "size") 8 40 (machine_text chart.now.shape chart.now.fuel)) }
+{
+    push_words_begin(out, b"size", Point { x: 8, y: 40 })?;
+    push_machine(out, chart.shape, chart.fuel)?;
+    push_words_end(out)
+}
+
+/// Adds both.
 #[tactic(auto, unfolding(crate::specs::Picture::heading))]
 fn push_heading(out: &mut Vec<u8>, chart: &Chart) -> Result<(), Memory>
     ensures { OnOk result (out.new.items ≡ out.old.items ++ heading chart.now) }
 {
-    push_words_begin(out, b"title", Point { x: 8, y: 22 })?;
-    push_title(out, chart)?;
-    push_words_end(out)?;
-    push_words_begin(out, b"size", Point { x: 8, y: 40 })?;
-    push_machine(out, chart.shape, chart.fuel)?;
-    push_words_end(out)
+    push_title_words(out, chart)?;
+    push_size_words(out, chart)
+}
+
+/// Adds what the document begins with, and its descriptions.
+fn push_document(out: &mut Vec<u8>, chart: &Chart) -> Result<(), Memory>
+    ensures { OnOk result (out.new.items ≡ out.old.items ++ (svg_begin ++ sizes chart.now ++ title_element chart.now ++ description chart.now)) }
+{
+    push_svg_begin(out)?;
+    push_sizes(out, chart)?;
+    push_title_element(out, chart)?;
+    push_description(out, chart)
+}
+
+/// Adds the style, and what stands in the picture above the columns.
+fn push_above(out: &mut Vec<u8>, chart: &Chart) -> Result<(), Memory>
+    ensures { OnOk result (out.new.items ≡ out.old.items ++ (style ++ ground (width chart.now) (height chart.now) ++ heading chart.now ++ legend)) }
+{
+    push_style(out)?;
+    push_ground(out, chart.width(), chart.height())?;
+    push_heading(out, chart)?;
+    push_legend(out)
 }
 
 /// Adds what stands before the bands.
@@ -136,14 +174,8 @@ fn push_heading(out: &mut Vec<u8>, chart: &Chart) -> Result<(), Memory>
 pub(crate) fn push_opening(out: &mut Vec<u8>, chart: &Chart) -> Result<(), Memory>
     ensures { OnOk result (out.new.items ≡ out.old.items ++ opening chart.now) }
 {
-    push_svg_begin(out)?;
-    push_sizes(out, chart)?;
-    push_title_element(out, chart)?;
-    push_description(out, chart)?;
-    push_style(out)?;
-    push_ground(out, chart.width(), chart.height())?;
-    push_heading(out, chart)?;
-    push_legend(out)
+    push_document(out, chart)?;
+    push_above(out, chart)
 }
 
 /// Adds a row's part of the band of its phase, if that phase has one.
@@ -157,9 +189,29 @@ fn push_band(out: &mut Vec<u8>, chart: &Chart, row: &ChartRow) -> Result<(), Mem
             y_of(row.line) - 9,
             chart.width(),
             18 * row.lines as u64,
-        )?;
+        )
+    } else {
+        Ok(())
     }
-    Ok(())
+}
+
+/// Adds the number of a phase at a point.
+#[tactic(auto, unfolding(crate::specs::Marks::attribute, crate::specs::Marks::words_begin, crate::specs::Marks::words_end, crate::specs::Labels::named))]
+fn push_phase_number(out: &mut Vec<u8>, at: Point, phase: PhaseId) -> Result<(), Memory>
+    ensures { OnOk result (out.new.items ≡ out.old.items ++ words_at (codes "left denovo-number") at.x at.y (named (codes "phase") phase.0)) }
+{
+    push_pieces(
+        out,
+        &[
+            Bytes(b"<text class='denovo-text denovo-left denovo-number' x='"),
+            Number(at.x),
+            Bytes(b"' y='"),
+            Number(at.y),
+            Bytes(b"'>phase "),
+            Number(u64::from(phase.0)),
+            Bytes(b"</text>\n"),
+        ],
+    )
 }
 
 /// Adds the line and the number of a phase above a row.
@@ -172,9 +224,7 @@ fn push_phase_begin(out: &mut Vec<u8>, chart: &Chart, row: &ChartRow) -> Result<
         y: y_of(row.line) + 4,
     };
     push_level(out, b"rule", y_of(row.line) - 9, chart.width())?;
-    push_words_begin(out, b"left denovo-number", at)?;
-    push_named(out, b"phase", row.phase.0)?;
-    push_words_end(out)
+    push_phase_number(out, at, row.phase)
 }
 
 /// Whether the row before is of this phase.
@@ -228,15 +278,22 @@ pub(crate) fn push_bands(out: &mut Vec<u8>, chart: &Chart, rows: &[ChartRow]) ->
     Ok(())
 }
 
+/// Adds the name of an actor above its column.
+fn push_actor_words(out: &mut Vec<u8>, x: u64, actor: Actor) -> Result<(), Memory>
+    ensures { OnOk result (out.new.items ≡ out.old.items ++ words_at (codes "actor") x 96 (actor_name actor)) }
+{
+    push_words_begin(out, b"actor", Point { x, y: 96 })?;
+    push_actor(out, actor)?;
+    push_words_end(out)
+}
+
 /// Adds the column of an actor, under its name.
 #[tactic(auto, unfolding(crate::specs::Picture::lane))]
 fn push_lane(out: &mut Vec<u8>, chart: &Chart, actor: Actor) -> Result<(), Memory>
     ensures { OnOk result (out.new.items ≡ out.old.items ++ lane chart.now actor) }
 {
     let x = chart.column(actor);
-    push_words_begin(out, b"actor", Point { x, y: 96 })?;
-    push_actor(out, actor)?;
-    push_words_end(out)?;
+    push_actor_words(out, x, actor)?;
     push_upright(out, b"lane", Point { x, y: TOP }, chart.bottom())
 }
 
@@ -253,9 +310,10 @@ fn push_bank_lane(out: &mut Vec<u8>, chart: &Chart, bank: u32) -> Result<(), Mem
     ensures { OnOk result (out.new.items ≡ out.old.items ++ bank_lane chart.now bank) }
 {
     if chart.is_shown(bank) {
-        push_lane(out, chart, Actor::Bank(BankId(bank)))?;
+        push_lane(out, chart, Actor::Bank(BankId(bank)))
+    } else {
+        Ok(())
     }
-    Ok(())
 }
 
 fn push_bank_lanes(out: &mut Vec<u8>, chart: &Chart) -> Result<(), Memory>

@@ -1,16 +1,22 @@
 //! The words of a chart.
-ghost use Rattle.std.specs.Prelude.{◌≡◌, ◌++◌, ◌-◌, length, slice_get, option_copied, OnOk};
-ghost use Rattle.message_chart.specs.Labels.{actor_name, actors_text, caches_text, change_text, code_label, empty_text, task_end_text, events_text, instruction_text, label_text, machine_begin, machine_text, named, no_event, numbers_text, state_words, title_begin, title_text, valued, waiting_text};
+ghost use Rattle.std.specs.Prelude.{◌≡◌, ◌++◌, ◌-◌, codes, slice_get, option_copied, OnOk};
+ghost use Rattle.std.specs.Fmt.{decimal};
+ghost use Rattle.text_pieces.specs.Pieces.{space};
+ghost use Rattle.run_report.specs.Run.{event_word};
+ghost use Rattle.place_texts.specs.Texts.{lock_text, word_text};
+ghost use Rattle.message_chart.specs.Labels.{actor_name, actors_text, caches_text, change_text, code_label, events_text, instruction_text, label_text, machine_text, named, state_words, task_end_text, title_begin, title_text, valued, waiting_text};
 
 use crate::chart::{About, Chart, ChartRow};
+use crate::pieces::Piece::{Bytes, Number};
+use crate::pieces::push_pieces;
 use crate::states::{WordChange, WordState};
-use dn_base::{LockId, Memory, Shape};
+use dn_base::{LockId, Memory, PhaseId, Shape, WordId};
 use message_net::{Actor, EventKind};
 use place_texts::{push_code_place, push_lock, push_word};
 use run_report::{event_name, push_end};
 use rv_core::{End, EndShown};
 use rv_listing::push_code_word;
-use text_pieces::{push, push_decimal, push_hexadecimal};
+use text_pieces::{push, to_hexadecimal};
 use text_places::{CodePlace, Located};
 
 /// Adds a name and a number.
@@ -18,9 +24,7 @@ use text_places::{CodePlace, Located};
 pub(crate) fn push_named(out: &mut Vec<u8>, name: &[u8], number: u32) -> Result<(), Memory>
     ensures { OnOk result (out.new.items ≡ out.old.items ++ named name.now number) }
 {
-    push(out, name)?;
-    push(out, b" ")?;
-    push_decimal(out, number)
+    push_pieces(out, &[Bytes(name), Bytes(b" "), Number(u64::from(number))])
 }
 
 /// Adds an actor's name.
@@ -40,9 +44,10 @@ pub(crate) fn push_actor(out: &mut Vec<u8>, actor: Actor) -> Result<(), Memory>
 fn push_valued(out: &mut Vec<u8>, name: &[u8], value: u32) -> Result<(), Memory>
     ensures { OnOk result (out.new.items ≡ out.old.items ++ valued name.now value) }
 {
-    push(out, name)?;
-    push(out, b" ")?;
-    push_hexadecimal(out, value)
+    push_pieces(
+        out,
+        &[Bytes(name), Bytes(b" "), Bytes(&to_hexadecimal(value))],
+    )
 }
 
 /// Adds what an actor has for a word.
@@ -62,6 +67,17 @@ fn push_state(out: &mut Vec<u8>, state: WordState) -> Result<(), Memory>
     }
 }
 
+/// Adds a word's name and its number.
+fn push_word_begin(out: &mut Vec<u8>, text: &Located, word: WordId) -> Result<(), Memory>
+    ensures { OnOk result (out.new.items ≡ out.old.items ++ (word_text text.now.program.regions word.0 ++ codes " (word " ++ decimal word.0 ++ codes "): ")) }
+{
+    push_word(out, &text.program, word.0)?;
+    push_pieces(
+        out,
+        &[Bytes(b" (word "), Number(u64::from(word.0)), Bytes(b"): ")],
+    )
+}
+
 /// Adds what becomes of a word.
 #[tactic(auto, unfolding(crate::specs::Labels::change_text))]
 pub(crate) fn push_change_text(
@@ -71,10 +87,7 @@ pub(crate) fn push_change_text(
 ) -> Result<(), Memory>
     ensures { OnOk result (out.new.items ≡ out.old.items ++ change_text text.now change) }
 {
-    push_word(out, &text.program, change.word.0)?;
-    push(out, b" (word ")?;
-    push_decimal(out, change.word.0)?;
-    push(out, b"): ")?;
+    push_word_begin(out, text, change.word)?;
     push_state(out, change.before)?;
     push(out, b" &#8594; ")?;
     push_state(out, change.after)
@@ -105,6 +118,47 @@ fn push_code(
     }
 }
 
+/// Adds what an event or a mail about a word is.
+fn push_word_label(
+    out: &mut Vec<u8>,
+    text: &Located,
+    kind: EventKind,
+    word: WordId,
+) -> Result<(), Memory>
+    ensures { OnOk result (out.new.items ≡ out.old.items ++ (event_word kind ++ space ++ word_text text.now.program.regions word.0)) }
+{
+    push_pieces(out, &[Bytes(event_name(kind)), Bytes(b" ")])?;
+    push_word(out, &text.program, word.0)
+}
+
+/// The same of one about a lock.
+fn push_lock_label(
+    out: &mut Vec<u8>,
+    text: &Located,
+    kind: EventKind,
+    lock: LockId,
+) -> Result<(), Memory>
+    ensures { OnOk result (out.new.items ≡ out.old.items ++ (event_word kind ++ space ++ lock_text text.now.program.locks lock.0)) }
+{
+    push_pieces(out, &[Bytes(event_name(kind)), Bytes(b" ")])?;
+    push_lock(out, text.program.locks.as_slice(), lock.0 as usize)
+}
+
+/// The same of one about a phase.
+#[tactic(auto, unfolding(crate::specs::Labels::named))]
+fn push_phase_label(out: &mut Vec<u8>, kind: EventKind, phase: PhaseId) -> Result<(), Memory>
+    ensures { OnOk result (out.new.items ≡ out.old.items ++ (event_word kind ++ named (codes " phase") phase.0)) }
+{
+    push_pieces(
+        out,
+        &[
+            Bytes(event_name(kind)),
+            Bytes(b" phase "),
+            Number(u64::from(phase.0)),
+        ],
+    )
+}
+
 /// Adds what an event or a mail is, and what it is about.
 #[tactic(auto, unfolding(crate::specs::Labels::label_text))]
 pub(crate) fn push_label(
@@ -123,20 +177,9 @@ pub(crate) fn push_label(
             text.program.code.get(number as usize),
             kind,
         ),
-        About::Word(word) => {
-            push(out, event_name(kind))?;
-            push(out, b" ")?;
-            push_word(out, &text.program, word.0)
-        }
-        About::Lock(lock) => {
-            push(out, event_name(kind))?;
-            push(out, b" ")?;
-            push_lock(out, text.program.locks.as_slice(), lock.0 as usize)
-        }
-        About::Phase(phase) => {
-            push(out, event_name(kind))?;
-            push_named(out, b" phase", phase.0)
-        }
+        About::Word(word) => push_word_label(out, text, kind, word),
+        About::Lock(lock) => push_lock_label(out, text, kind, lock),
+        About::Phase(phase) => push_phase_label(out, kind, phase),
     }
 }
 
@@ -158,53 +201,31 @@ pub(crate) fn push_waiting(out: &mut Vec<u8>, text: &Located, lock: LockId) -> R
     push_lock(out, text.program.locks.as_slice(), lock.0 as usize)
 }
 
-#[tactic(auto, unfolding(crate::specs::Labels::numbers_text))]
-fn push_range(out: &mut Vec<u8>, first: u32, last: u32, events: u32) -> Result<(), Memory>
-    ensures { OnOk result (out.new.items ≡ out.old.items ++ numbers_text first last events) }
-{
-    push(out, b"events ")?;
-    push_decimal(out, first)?;
-    push(out, b" to ")?;
-    push_decimal(out, last)?;
-    push(out, b" of ")?;
-    push_decimal(out, events)
-}
-
-#[tactic(auto, unfolding(crate::specs::Labels::no_event))]
-fn push_no_event(out: &mut Vec<u8>) -> Result<(), Memory>
-    ensures { OnOk result (out.new.items ≡ out.old.items ++ no_event) }
-{
-    push(out, b"no event of ")
-}
-
-#[tactic(auto, unfolding(crate::specs::Labels::empty_text))]
-fn push_empty(out: &mut Vec<u8>, events: u32) -> Result<(), Memory>
-    ensures { OnOk result (out.new.items ≡ out.old.items ++ empty_text events) }
-{
-    push_no_event(out)?;
-    push_decimal(out, events)
-}
-
 /// Adds which events have rows, by the first of them and the last row.
+#[tactic(auto, unfolding(crate::specs::Labels::empty_text, crate::specs::Labels::no_event, crate::specs::Labels::numbers_text, crate::specs::Labels::title_begin))]
 fn push_events(
     out: &mut Vec<u8>,
     first: u32,
     last: Option<&ChartRow>,
     events: u32,
 ) -> Result<(), Memory>
-    ensures { OnOk result (out.new.items ≡ out.old.items ++ events_text first (option_copied last.entry) events) }
+    ensures { OnOk result (out.new.items ≡ out.old.items ++ (title_begin ++ events_text first (option_copied last.entry) events)) }
 {
+    let events = Number(u64::from(events));
     match last {
-        Some(last) => push_range(out, first, last.event, events),
-        None => push_empty(out, events),
+        Some(last) => push_pieces(
+            out,
+            &[
+                Bytes(b"Message chart: events "),
+                Number(u64::from(first)),
+                Bytes(b" to "),
+                Number(u64::from(last.event)),
+                Bytes(b" of "),
+                events,
+            ],
+        ),
+        None => push_pieces(out, &[Bytes(b"Message chart: no event of "), events]),
     }
-}
-
-#[tactic(auto, unfolding(crate::specs::Labels::title_begin))]
-fn push_title_begin(out: &mut Vec<u8>) -> Result<(), Memory>
-    ensures { OnOk result (out.new.items ≡ out.old.items ++ title_begin) }
-{
-    push(out, b"Message chart: ")
 }
 
 /// The number of the last of this many things, or 0.
@@ -219,34 +240,40 @@ fn last_of(count: usize) -> usize
 pub(crate) fn push_title(out: &mut Vec<u8>, chart: &Chart) -> Result<(), Memory>
     ensures { OnOk result (out.new.items ≡ out.old.items ++ title_text chart.now) }
 {
-    push_title_begin(out)?;
     let last = chart.rows.get(last_of(chart.rows.len()));
     push_events(out, chart.first, last, chart.events)
 }
 
-#[tactic(auto, unfolding(crate::specs::Labels::machine_begin))]
-fn push_machine_begin(out: &mut Vec<u8>) -> Result<(), Memory>
-    ensures { OnOk result (out.new.items ≡ out.old.items ++ machine_begin) }
-{
-    push(out, b"Machine: cores ")
-}
-
-#[tactic(auto, unfolding(crate::specs::Labels::actors_text))]
+#[tactic(auto, unfolding(crate::specs::Labels::actors_text, crate::specs::Labels::machine_begin, crate::specs::Labels::named))]
 fn push_actors(out: &mut Vec<u8>, shape: Shape) -> Result<(), Memory>
     ensures { OnOk result (out.new.items ≡ out.old.items ++ actors_text shape) }
 {
-    push_machine_begin(out)?;
-    push_decimal(out, shape.cores)?;
-    push_named(out, b", banks", shape.banks)
+    push_pieces(
+        out,
+        &[
+            Bytes(b"Machine: cores "),
+            Number(u64::from(shape.cores)),
+            Bytes(b", banks "),
+            Number(u64::from(shape.banks)),
+        ],
+    )
 }
 
-#[tactic(auto, unfolding(crate::specs::Labels::caches_text))]
+#[tactic(auto, unfolding(crate::specs::Labels::caches_text, crate::specs::Labels::named))]
 fn push_caches(out: &mut Vec<u8>, shape: Shape, fuel: u32) -> Result<(), Memory>
     ensures { OnOk result (out.new.items ≡ out.old.items ++ caches_text shape fuel) }
 {
-    push_named(out, b", sets", shape.sets)?;
-    push_named(out, b", ways", shape.ways)?;
-    push_named(out, b", fuel", fuel)
+    push_pieces(
+        out,
+        &[
+            Bytes(b", sets "),
+            Number(u64::from(shape.sets)),
+            Bytes(b", ways "),
+            Number(u64::from(shape.ways)),
+            Bytes(b", fuel "),
+            Number(u64::from(fuel)),
+        ],
+    )
 }
 
 /// Adds the size of the machine.

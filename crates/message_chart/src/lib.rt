@@ -10,6 +10,7 @@ mod labels;
 mod laws;
 mod marks;
 mod picture;
+mod pieces;
 mod places;
 mod rows;
 mod states;

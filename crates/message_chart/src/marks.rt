@@ -1,9 +1,11 @@
 //! The elements of the picture.
 ghost use Rattle.std.specs.Prelude.{◌≡◌, ◌≤◌, ◌++◌, OnOk};
-ghost use Rattle.message_chart.specs.Marks.{attribute, class_begin, rectangle, circle, element, element_end, head_from_left, head_from_right, level, line_to, path_begin, path_end, upright, words_begin, words_end, x_of, y_of};
+ghost use Rattle.message_chart.specs.Marks.{attribute, circle, class_begin, element, element_end, head_from_left, head_from_right, level, line_to, path_begin, path_end, rectangle, upright, words_begin, words_end, x_of, y_of};
 
+use crate::pieces::Piece::{Bytes, Number};
+use crate::pieces::push_pieces;
 use dn_base::Memory;
-use text_pieces::{push, push_long};
+use text_pieces::push;
 
 /// Where the columns begin.
 pub(crate) const TOP: u64 = 104;
@@ -34,15 +36,21 @@ pub(crate) struct Point {
     pub(crate) y: u64,
 }
 
+/// Adds an attribute.
 #[tactic(auto, unfolding(crate::specs::Marks::attribute))]
 pub(crate) fn push_attribute(out: &mut Vec<u8>, name: &[u8], number: u64) -> Result<(), Memory>
     ensures { OnOk result (out.new.items ≡ out.old.items ++ attribute name.now number) }
 {
-    push(out, b" ")?;
-    push(out, name)?;
-    push(out, b"='")?;
-    push_long(out, number)?;
-    push(out, b"'")
+    push_pieces(
+        out,
+        &[
+            Bytes(b" "),
+            Bytes(name),
+            Bytes(b"='"),
+            Number(number),
+            Bytes(b"'"),
+        ],
+    )
 }
 
 /// Begins the name of a class.
@@ -114,21 +122,14 @@ fn push_path_begin(out: &mut Vec<u8>, class: &[u8], from: Point) -> Result<(), M
     ensures { OnOk result (out.new.items ≡ out.old.items ++ path_begin class.now from.x from.y) }
 {
     push_element(out, b"path", class)?;
-    push(out, b" d='M")?;
-    push_long(out, from.x)?;
-    push(out, b" ")?;
-    push_long(out, from.y)
-}
-
-#[tactic(auto, unfolding(crate::specs::Marks::path_end))]
-fn push_path_end(out: &mut Vec<u8>) -> Result<(), Memory>
-    ensures { OnOk result (out.new.items ≡ out.old.items ++ path_end) }
-{
-    push(out, b"'/>\n")
+    push_pieces(
+        out,
+        &[Bytes(b" d='M"), Number(from.x), Bytes(b" "), Number(from.y)],
+    )
 }
 
 /// Adds a line straight down to a height.
-#[tactic(auto, unfolding(crate::specs::Marks::upright))]
+#[tactic(auto, unfolding(crate::specs::Marks::path_end, crate::specs::Marks::upright))]
 pub(crate) fn push_upright(
     out: &mut Vec<u8>,
     class: &[u8],
@@ -138,24 +139,20 @@ pub(crate) fn push_upright(
     ensures { OnOk result (out.new.items ≡ out.old.items ++ upright class.now from.x from.y bottom) }
 {
     push_path_begin(out, class, from)?;
-    push(out, b"V")?;
-    push_long(out, bottom)?;
-    push_path_end(out)
+    push_pieces(out, &[Bytes(b"V"), Number(bottom), Bytes(b"'/>\n")])
 }
 
 /// Adds a line across, from the left edge on.
-#[tactic(auto, unfolding(crate::specs::Marks::level))]
+#[tactic(auto, unfolding(crate::specs::Marks::level, crate::specs::Marks::path_end))]
 pub(crate) fn push_level(out: &mut Vec<u8>, class: &[u8], y: u64, right: u64) -> Result<(), Memory>
     ensures { OnOk result (out.new.items ≡ out.old.items ++ level class.now y right) }
 {
     push_path_begin(out, class, Point { x: 0, y })?;
-    push(out, b"H")?;
-    push_long(out, right)?;
-    push_path_end(out)
+    push_pieces(out, &[Bytes(b"H"), Number(right), Bytes(b"'/>\n")])
 }
 
 /// Adds a line from one point to another.
-#[tactic(auto, unfolding(crate::specs::Marks::line_to))]
+#[tactic(auto, unfolding(crate::specs::Marks::line_to, crate::specs::Marks::path_end))]
 pub(crate) fn push_line(
     out: &mut Vec<u8>,
     class: &[u8],
@@ -165,11 +162,23 @@ pub(crate) fn push_line(
     ensures { OnOk result (out.new.items ≡ out.old.items ++ line_to class.now from.x from.y to.x to.y) }
 {
     push_path_begin(out, class, from)?;
-    push(out, b"L")?;
-    push_long(out, to.x)?;
-    push(out, b" ")?;
-    push_long(out, to.y)?;
-    push_path_end(out)
+    push_pieces(
+        out,
+        &[
+            Bytes(b"L"),
+            Number(to.x),
+            Bytes(b" "),
+            Number(to.y),
+            Bytes(b"'/>\n"),
+        ],
+    )
+}
+
+#[tactic(auto, unfolding(crate::specs::Marks::path_end))]
+fn push_path_end(out: &mut Vec<u8>) -> Result<(), Memory>
+    ensures { OnOk result (out.new.items ≡ out.old.items ++ path_end) }
+{
+    push(out, b"'/>\n")
 }
 
 /// Adds the head of an arrow that comes from the left and ends at a point.
@@ -193,16 +202,22 @@ pub(crate) fn push_head_from_right(out: &mut Vec<u8>, at: Point) -> Result<(), M
 }
 
 /// Begins words of a class at a point.
-#[tactic(auto, unfolding(crate::specs::Marks::words_begin))]
+#[tactic(auto, unfolding(crate::specs::Marks::attribute, crate::specs::Marks::words_begin))]
 pub(crate) fn push_words_begin(out: &mut Vec<u8>, class: &[u8], at: Point) -> Result<(), Memory>
     ensures { OnOk result (out.new.items ≡ out.old.items ++ words_begin class.now at.x at.y) }
 {
-    push(out, b"<text class='denovo-text denovo-")?;
-    push(out, class)?;
-    push(out, b"'")?;
-    push_attribute(out, b"x", at.x)?;
-    push_attribute(out, b"y", at.y)?;
-    push(out, b">")
+    push_pieces(
+        out,
+        &[
+            Bytes(b"<text class='denovo-text denovo-"),
+            Bytes(class),
+            Bytes(b"' x='"),
+            Number(at.x),
+            Bytes(b"' y='"),
+            Number(at.y),
+            Bytes(b"'>"),
+        ],
+    )
 }
 
 /// Ends them.

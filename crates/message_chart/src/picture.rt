@@ -1,5 +1,5 @@
-ghost use Rattle.std.specs.Prelude.{◌≡◌, ◌++◌, IfOk, OnOk};
-ghost use Rattle.message_chart.specs.Picture.{chain_begin, chain_path, svg_of};
+ghost use Rattle.std.specs.Prelude.{◌≡◌, ◌++◌, flat_map, None, IfOk, OnOk};
+ghost use Rattle.message_chart.specs.Picture.{arrow, bands, chain_begin, chain_path, lanes, leaving_arrow, leaving_words, opening, row_words, svg_of, waiting_words};
 
 use crate::chart::Chart;
 use crate::head::{push_bands, push_lanes, push_opening};
@@ -29,6 +29,44 @@ fn push_chain_line(out: &mut Vec<u8>, chart: &Chart) -> Result<(), Memory>
     push(out, b"'/>\n")
 }
 
+/// Adds the line through the chain's events and the arrows.
+fn push_lines(out: &mut Vec<u8>, chart: &Chart) -> Result<(), Memory>
+    ensures { OnOk result (out.new.items ≡ out.old.items ++ (chain_path chart.now ++ flat_map (arrow chart.now) chart.now.rows ++ flat_map (leaving_arrow chart.now) chart.now.leaving)) }
+{
+    push_chain_line(out, chart)?;
+    push_arrows(out, chart, chart.rows.as_slice())?;
+    push_leaving_arrows(out, chart, chart.leaving.as_slice())
+}
+
+/// Adds the ground, the bands and the columns.
+fn push_below(out: &mut Vec<u8>, chart: &Chart) -> Result<(), Memory>
+    ensures { OnOk result (out.new.items ≡ out.old.items ++ (opening chart.now ++ bands chart.now None chart.now.rows ++ lanes chart.now)) }
+{
+    push_opening(out, chart)?;
+    push_bands(out, chart, chart.rows.as_slice())?;
+    push_lanes(out, chart)
+}
+
+/// Adds the words.
+fn push_words(out: &mut Vec<u8>, chart: &Chart, text: &Located) -> Result<(), Memory>
+    ensures { OnOk result (out.new.items ≡ out.old.items ++ (flat_map (row_words chart.now text.now) chart.now.rows ++ flat_map (leaving_words chart.now text.now) chart.now.leaving ++ flat_map (waiting_words chart.now text.now) chart.now.waiting)) }
+{
+    push_rows(out, chart, text, chart.rows.as_slice())?;
+    push_leaving_mails(out, chart, text, chart.leaving.as_slice())?;
+    push_waiting_tasks(out, chart, text, chart.waiting.as_slice())
+}
+
+/// Adds the picture.
+#[tactic(auto, unfolding(crate::specs::Picture::svg_of))]
+fn push_picture(out: &mut Vec<u8>, chart: &Chart, text: &Located) -> Result<(), Memory>
+    ensures { OnOk result (out.new.items ≡ out.old.items ++ svg_of chart.now text.now) }
+{
+    push_below(out, chart)?;
+    push_lines(out, chart)?;
+    push_words(out, chart, text)?;
+    push(out, b"</svg>\n")
+}
+
 /// The chart as a picture, the text of an SVG document. It has a title with the machine's size, a legend, bands for the phases,
 /// the actors' columns, a line through the chain's events with a ring around each, and an arrow for each mail. Each event has
 /// its number, its actor and what it is, how its task ends, and how it changes words. After the rows come the mails that no
@@ -39,20 +77,10 @@ fn push_chain_line(out: &mut Vec<u8>, chart: &Chart) -> Result<(), Memory>
 ///
 /// # Errors
 /// `Memory` where there is no room for the picture.
-#[tactic(auto, unfolding(crate::specs::Picture::svg_of))]
 pub fn chart_text(alloc: Global, chart: &Chart, text: &Located) -> Result<Vec<u8>, Memory>
     ensures { IfOk result (λ picture. picture.items ≡ svg_of chart.now text.now) }
 {
     let mut out = Vec::new(alloc);
-    push_opening(&mut out, chart)?;
-    push_bands(&mut out, chart, chart.rows.as_slice())?;
-    push_lanes(&mut out, chart)?;
-    push_chain_line(&mut out, chart)?;
-    push_arrows(&mut out, chart, chart.rows.as_slice())?;
-    push_leaving_arrows(&mut out, chart, chart.leaving.as_slice())?;
-    push_rows(&mut out, chart, text, chart.rows.as_slice())?;
-    push_leaving_mails(&mut out, chart, text, chart.leaving.as_slice())?;
-    push_waiting_tasks(&mut out, chart, text, chart.waiting.as_slice())?;
-    push(&mut out, b"</svg>\n")?;
+    push_picture(&mut out, chart, text)?;
     Ok(out)
 }

@@ -1,21 +1,25 @@
 //! The rows with their arrows, and what follows them.
-ghost use Rattle.std.specs.Prelude.{◌≡◌, ◌≤◌, ◌++◌, ◌*◌, ◌+◌, flat_map, OnOk};
-ghost use Rattle.message_chart.specs.Marks.{y_of};
+ghost use Rattle.std.specs.Prelude.{◌≡◌, ◌≤◌, ◌++◌, ◌*◌, ◌+◌, ◌-◌, codes, flat_map, OnOk};
+ghost use Rattle.std.specs.Fmt.{decimal};
+ghost use Rattle.text_pieces.specs.Pieces.{space};
+ghost use Rattle.message_chart.specs.Marks.{head_from_left, head_from_right, line_to, words_at, words_begin, y_of};
 ghost use Rattle.message_chart.specs.Picture.{arrow, arrow_between, beside, change_words, changes_below, comes_from_right, dot, end_lines, ending_words, height_of, label, leaving_arrow, leaving_words, mail_class, number_words, point, ring, row_words, waiting_words};
 ghost use Rattle.message_chart.specs.Places.{column};
-ghost use Rattle.message_chart.specs.Labels.{label_text};
+ghost use Rattle.message_chart.specs.Labels.{label_text, task_end_text};
 
 use crate::chart::{About, Chart, ChartRow, LeavingMail, Origin, WaitingTask};
 use crate::labels::{push_actor, push_change_text, push_ending, push_label, push_waiting};
 use crate::marks::{
-    Point, TOP, push_attribute, push_circle, push_head_from_left, push_head_from_right, push_line,
+    Point, TOP, push_circle, push_head_from_left, push_head_from_right, push_line,
     push_words_begin, push_words_end, y_of,
 };
+use crate::pieces::Piece::{Bytes, Number};
+use crate::pieces::push_pieces;
 use crate::states::WordChange;
 use dn_base::Memory;
 use message_net::{Actor, EventKind};
 use rv_core::End;
-use text_pieces::{push, push_decimal, push_long};
+use text_pieces::push;
 use text_places::Located;
 
 /// Adds the point of an event of the chain.
@@ -27,10 +31,10 @@ fn push_point(out: &mut Vec<u8>, chart: &Chart, row: &ChartRow) -> Result<(), Me
         return Ok(());
     }
     let dot = chart.dot(row);
-    push_long(out, dot.x)?;
-    push(out, b",")?;
-    push_long(out, dot.y)?;
-    push(out, b" ")
+    push_pieces(
+        out,
+        &[Number(dot.x), Bytes(b","), Number(dot.y), Bytes(b" ")],
+    )
 }
 
 /// Adds the points of the chain's events.
@@ -43,6 +47,33 @@ pub(crate) fn push_points(out: &mut Vec<u8>, chart: &Chart, rows: &[ChartRow]) -
     Ok(())
 }
 
+/// Adds an arrow of a class from one point to another to the left. Its line leaves room for its head.
+fn push_arrow_to_left(out: &mut Vec<u8>, class: &[u8], from: Point, to: Point) -> Result<(), Memory>
+    requires least { 300 ≤ to.x }
+    requires most { to.x ≤ 566935685352 }
+    ensures { OnOk result (out.new.items ≡ out.old.items ++ (line_to class.now from.x from.y (to.x + 13) to.y ++ head_from_right (to.x + 5) to.y)) }
+{
+    let Point { x, y } = to;
+    push_line(out, class, from, Point { x: x + 13, y })?;
+    push_head_from_right(out, Point { x: x + 5, y })
+}
+
+/// The same of one to the right, or straight up or down.
+fn push_arrow_to_right(
+    out: &mut Vec<u8>,
+    class: &[u8],
+    from: Point,
+    to: Point,
+) -> Result<(), Memory>
+    requires least { 300 ≤ to.x }
+    requires most { to.x ≤ 566935685352 }
+    ensures { OnOk result (out.new.items ≡ out.old.items ++ (line_to class.now from.x from.y (to.x - 13) to.y ++ head_from_left (to.x - 5) to.y)) }
+{
+    let Point { x, y } = to;
+    push_line(out, class, from, Point { x: x - 13, y })?;
+    push_head_from_left(out, Point { x: x - 5, y })
+}
+
 /// Adds an arrow of a class from one point to another.
 #[tactic(auto, unfolding(crate::specs::Picture::arrow_between))]
 fn push_arrow_between(out: &mut Vec<u8>, class: &[u8], from: Point, to: Point) -> Result<(), Memory>
@@ -50,13 +81,10 @@ fn push_arrow_between(out: &mut Vec<u8>, class: &[u8], from: Point, to: Point) -
     requires most { to.x ≤ 566935685352 }
     ensures { OnOk result (out.new.items ≡ out.old.items ++ arrow_between class.now from.x from.y to.x to.y) }
 {
-    let Point { x, y } = to;
-    if x < from.x {
-        push_line(out, class, from, Point { x: x + 13, y })?;
-        push_head_from_right(out, Point { x: x + 5, y })
+    if to.x < from.x {
+        push_arrow_to_left(out, class, from, to)
     } else {
-        push_line(out, class, from, Point { x: x - 13, y })?;
-        push_head_from_left(out, Point { x: x - 5, y })
+        push_arrow_to_right(out, class, from, to)
     }
 }
 
@@ -133,18 +161,31 @@ pub(crate) fn push_leaving_arrows(
     Ok(())
 }
 
+/// Adds the event's number, before its actor.
+#[tactic(auto, unfolding(crate::specs::Marks::attribute, crate::specs::Marks::words_begin))]
+fn push_number_begin(out: &mut Vec<u8>, row: &ChartRow) -> Result<(), Memory>
+    ensures { OnOk result (out.new.items ≡ out.old.items ++ (words_begin (codes "number") 8 (y_of row.now.line + 4) ++ decimal row.now.event ++ space)) }
+{
+    push_pieces(
+        out,
+        &[
+            Bytes(b"<text class='denovo-text denovo-number' x='"),
+            Number(8),
+            Bytes(b"' y='"),
+            Number(y_of(row.line) + 4),
+            Bytes(b"'>"),
+            Number(u64::from(row.event)),
+            Bytes(b" "),
+        ],
+    )
+}
+
 /// Adds the event's number and actor.
 #[tactic(auto, unfolding(crate::specs::Picture::number_words))]
 fn push_number(out: &mut Vec<u8>, row: &ChartRow) -> Result<(), Memory>
     ensures { OnOk result (out.new.items ≡ out.old.items ++ number_words row.now) }
 {
-    let at = Point {
-        x: 8,
-        y: y_of(row.line) + 4,
-    };
-    push_words_begin(out, b"number", at)?;
-    push_decimal(out, row.event)?;
-    push(out, b" ")?;
+    push_number_begin(out, row)?;
     push_actor(out, row.actor)?;
     push_words_end(out)
 }
@@ -155,9 +196,10 @@ fn push_ring(out: &mut Vec<u8>, chart: &Chart, row: &ChartRow) -> Result<(), Mem
     ensures { OnOk result (out.new.items ≡ out.old.items ++ ring chart.now row.now) }
 {
     if row.on_chain {
-        push_circle(out, b"ring", chart.dot(row), 8)?;
+        push_circle(out, b"ring", chart.dot(row), 8)
+    } else {
+        Ok(())
     }
-    Ok(())
 }
 
 /// Adds the dot of an event.
@@ -168,7 +210,23 @@ fn push_dot(out: &mut Vec<u8>, chart: &Chart, row: &ChartRow) -> Result<(), Memo
     push_circle(out, b"event", chart.dot(row), 4)
 }
 
-/// Begins words beside a point, on the side from which no arrow comes.
+/// Adds what an event or a mail is, as words of a class at a point.
+fn push_label_words(
+    out: &mut Vec<u8>,
+    text: &Located,
+    class: &[u8],
+    at: Point,
+    kind: EventKind,
+    about: About,
+) -> Result<(), Memory>
+    ensures { OnOk result (out.new.items ≡ out.old.items ++ words_at class.now at.x at.y (label_text text.now kind about)) }
+{
+    push_words_begin(out, class, at)?;
+    push_label(out, text, kind, about)?;
+    push_words_end(out)
+}
+
+/// The same beside a point, on the side from which no arrow comes.
 fn push_beside(
     out: &mut Vec<u8>,
     text: &Located,
@@ -185,12 +243,10 @@ fn push_beside(
     let Point { x, y } = at;
     let y = y + 4;
     if from_right {
-        push_words_begin(out, b"left", Point { x: x - 14, y })?;
+        push_label_words(out, text, b"left", Point { x: x - 14, y }, kind, about)
     } else {
-        push_words_begin(out, b"right", Point { x: x + 14, y })?;
+        push_label_words(out, text, b"right", Point { x: x + 14, y }, kind, about)
     }
-    push_label(out, text, kind, about)?;
-    push_words_end(out)
 }
 
 /// Whether the mail that an event handles comes from a column to the right.
@@ -217,6 +273,15 @@ fn push_row_label(
     push_beside(out, text, from_right, chart.dot(row), row.kind, row.about)
 }
 
+/// Adds how a task ends, at a point.
+fn push_ending_words(out: &mut Vec<u8>, at: Point, end: End) -> Result<(), Memory>
+    ensures { OnOk result (out.new.items ≡ out.old.items ++ words_at (codes "end") at.x at.y (task_end_text end)) }
+{
+    push_words_begin(out, b"end", at)?;
+    push_ending(out, end)?;
+    push_words_end(out)
+}
+
 /// Adds how the task ends with the event, if it does.
 fn push_row_ending(out: &mut Vec<u8>, at: Point, end: Option<End>) -> Result<(), Memory>
     requires most_x { at.x ≤ 566935685352 }
@@ -230,20 +295,24 @@ fn push_row_ending(out: &mut Vec<u8>, at: Point, end: Option<End>) -> Result<(),
         x: at.x + 14,
         y: at.y + 22,
     };
-    push_words_begin(out, b"end", below)?;
-    push_ending(out, end)?;
-    push_words_end(out)
+    push_ending_words(out, below, end)
 }
 
 /// Adds a change.
-#[tactic(auto, unfolding(crate::specs::Picture::change_words))]
+#[tactic(auto, unfolding(crate::specs::Marks::attribute, crate::specs::Picture::change_words))]
 fn push_change(out: &mut Vec<u8>, text: &Located, x: u64, change: WordChange) -> Result<(), Memory>
     ensures { OnOk result (out.new.items ≡ out.old.items ++ change_words text.now x change) }
 {
-    push(out, b"<tspan")?;
-    push_attribute(out, b"x", x)?;
-    push_attribute(out, b"dy", 18)?;
-    push(out, b">")?;
+    push_pieces(
+        out,
+        &[
+            Bytes(b"<tspan x='"),
+            Number(x),
+            Bytes(b"' dy='"),
+            Number(18),
+            Bytes(b"'>"),
+        ],
+    )?;
     push_change_text(out, text, change)?;
     push(out, b"</tspan>")
 }
