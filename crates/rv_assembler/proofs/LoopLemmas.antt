@@ -1,5 +1,5 @@
 -- One turn of a loop that goes so many times.
-use Rattle.std.proofs.Common.{◌≡◌, ℕ, zero, suc, ◌+◌, ◌-◌, ◌<◌, Bool, true, ◌&&◌, ℤ, ◌+ℤ◌, List, [], ◌∷◌, ◌++◌, map, Option, Some, None, refl, ap, sym, ◌∙◌, append_assoc, append-nil, arith}
+use Rattle.std.proofs.Common.{◌≡◌, ℕ, zero, suc, ◌+◌, ◌-◌, ◌<◌, Bool, true, false, ◌&&◌, ℤ, ◌+ℤ◌, List, [], ◌∷◌, ◌++◌, map, Option, Some, None, refl, ap, sym, ◌∙◌, append_assoc, append-nil, arith}
 use Rattle.std.specs.Option.{option_to_list}
 use Rattle.std.specs.List.{range_with_len, cons_option}
 use Rattle.rv_assembler.specs.declared.draft.Start.{Start}
@@ -26,6 +26,9 @@ claimed_step done c step n k all e h =
 
 pub stepped_join : (len step lo hi : ℤ) (n : ℕ) (inside rest : Bool) → 0 < n → inside ≡ is_interval lo hi len → inside ≡ true → rest ≡ stepped_fits len step (lo +ℤ step) (hi +ℤ step) (n - 1) → rest ≡ stepped_fits len step lo hi n
 stepped_join len step lo hi n inside rest l e i r = let s : is_interval lo hi len ≡ true = sym e ∙ i in r ∙ sym (stepped_more len step lo hi n l ∙ rw s refl)
+
+pub stepped_off : (len step lo hi : ℤ) (n : ℕ) (inside : Bool) → 0 < n → inside ≡ is_interval lo hi len → inside ≡ false → false ≡ stepped_fits len step lo hi n
+stepped_off len step lo hi n inside l e i = let s : is_interval lo hi len ≡ false = sym e ∙ i in sym (stepped_more len step lo hi n l ∙ rw s refl)
 
 pub map_step : {X : Type 0} (f : ℕ → X) (done : List X) (a n k : ℕ) (all : List X) → n ≡ suc k → done ++ map f (range_with_len a n) ≡ all → (done ++ f a ∷ []) ++ map f (range_with_len (a + 1) k) ≡ all
 map_step f done a n k all e h =

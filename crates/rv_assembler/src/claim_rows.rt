@@ -79,11 +79,11 @@ fn note(rows: &mut Vec<Sequence<Interval>>, words: u32, claim: Claim) -> Result<
 fn empty_rows(alloc: Global, count: usize) -> Result<Vec<Sequence<Interval>>, Memory>
     ensures { IfOk result (λ rows. rows.items ≡ replicate count []) }
 {
-    let mut rows = Vec::with_capacity(alloc, count)?;
+    let mut rows = Sequence::from_vec(Vec::with_capacity(alloc, count)?);
     for _row in 0..count {
         rows.push(Sequence::new(alloc))?;
     }
-    Ok(rows)
+    Ok(rows.into_vec())
 }
 
 /// The rows of `phases` phases, which are numbered from 1, with all claims.

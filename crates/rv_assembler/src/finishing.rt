@@ -120,10 +120,12 @@ fn is_task(phase: u32, core: u32, task: Start) -> bool
 fn task_on(tasks: &[Start], phase: u32, core: u32) -> Option<Start>
     ensures { result ≡ find (is_task phase core) tasks.now }
 {
-    tasks
-        .iter()
-        .copied()
-        .find(|task| is_task(phase, core, *task))
+    for task in tasks {
+        if is_task(phase, core, *task) {
+            return Some(*task);
+        }
+    }
+    None
 }
 
 /// Adds a task, if there is one.
@@ -211,25 +213,41 @@ fn phases_of(
     phases_by(alloc, words, locks, rows.as_slice(), tasks, count)
 }
 
-/// The program that the lines of a text add up to.
-pub(crate) fn finish(alloc: Global, draft: Draft) -> Result<Program, Memory>
-    requires words { draft.count.words ≤ 65536 }
-    requires phases { draft.phases ≤ 64 }
-    requires locks { length draft.locks ≤ 32 }
-    requires program { IsProgram (finished_program draft) }
-    ensures { IfOk result (λ program. program ≡ finished_program draft) }
+/// The tables of a program that aren't tables of its draft.
+#[derive(Drop)]
+struct Made {
+    memory: Vec<u32>,
+    phases: Sequence<Phase>,
+}
+
+/// The first memory and the phases of a draft.
+fn make_tables(alloc: Global, draft: &Draft) -> Result<Made, Memory>
+    requires words { draft.now.count.words ≤ 65536 }
+    requires phases { draft.now.phases ≤ 64 }
+    requires locks { length draft.now.locks ≤ 32 }
+    ensures memory { IfOk result (λ made. made.memory.items ≡ (finished_program draft.now).memory) }
+    ensures phases { IfOk result (λ made. made.phases ≡ (finished_program draft.now).phases) }
 {
     let words = draft.count.words;
-    let locks = draft.locks.len() as u32;
+    let memory = first_memory(alloc, words, draft.values.as_slice())?;
     let phases = phases_of(
         alloc,
         words,
-        locks,
+        draft.locks.len() as u32,
         draft.claims.as_slice(),
         draft.tasks.as_slice(),
         draft.phases,
     )?;
-    let memory = first_memory(alloc, words, draft.values.as_slice())?;
+    Ok(Made { memory, phases })
+}
+
+/// The program of a draft and of the tables that are made from it.
+fn joined(draft: Draft, made: Made) -> Program
+    requires program { IsProgram (finished_program draft) }
+    requires memory { made.memory.items ≡ (finished_program draft).memory }
+    requires phases { made.phases ≡ (finished_program draft).phases }
+    ensures { result ≡ finished_program draft }
+{
     let Draft {
         code,
         regions,
@@ -241,11 +259,24 @@ pub(crate) fn finish(alloc: Global, draft: Draft) -> Result<Program, Memory>
         family: _,
         count: _,
     } = draft;
-    Ok(Program {
+    let Made { memory, phases } = made;
+    Program {
         code,
         memory: Sequence::from_vec(memory),
         regions,
         locks,
         phases,
-    })
+    }
+}
+
+/// The program that the lines of a text add up to.
+pub(crate) fn finish(alloc: Global, draft: Draft) -> Result<Program, Memory>
+    requires words { draft.count.words ≤ 65536 }
+    requires phases { draft.phases ≤ 64 }
+    requires locks { length draft.locks ≤ 32 }
+    requires program { IsProgram (finished_program draft) }
+    ensures { IfOk result (λ program. program ≡ finished_program draft) }
+{
+    let made = make_tables(alloc, &draft)?;
+    Ok(joined(draft, made))
 }

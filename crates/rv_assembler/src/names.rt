@@ -13,7 +13,7 @@ use crate::number::{is_length, more, wrapped};
 use crate::operand::bytes;
 use crate::reading::{Reading, Saying};
 use crate::statement::{Code, Statement};
-use dn_base::Memory;
+use dn_base::{Memory, Sequence};
 use src_text::Token;
 use std::alloc::Global;
 use std::collections::BTreeMap;
@@ -128,11 +128,11 @@ fn put_on<'a>(shelf: &mut Shelf<'a>, name: &'a [u8], meaning: Meaning) -> Result
 fn empty_shelves<'a>(alloc: Global, count: usize) -> Result<Vec<Shelf<'a>>, Memory>
     ensures { IfOk result (λ shelves. All IsEmpty shelves.items) }
 {
-    let mut shelves = Vec::with_capacity(alloc, count)?;
+    let mut shelves = Sequence::from_vec(Vec::with_capacity(alloc, count)?);
     for _shelf in 0..count {
         shelves.push(BTreeMap::new(alloc))?;
     }
-    Ok(shelves)
+    Ok(shelves.into_vec())
 }
 
 /// A hash of a name.

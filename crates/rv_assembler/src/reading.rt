@@ -1,7 +1,7 @@
 //! What a line says: its label and its statement.
-ghost use Rattle.std.specs.Prelude.{◌≡◌, ◌≤◌, not, if◌then◌else◌, Err, IfOk, map};
+ghost use Rattle.std.specs.Prelude.{◌≡◌, ◌≤◌, ◌&&◌, not, if◌then◌else◌, Err, IfOk, map};
 ghost use Rattle.rv_assembler.specs.declared.fault.SourceFault.TheVariants.{UnknownWord};
-ghost use Rattle.rv_assembler.specs.Shape.{knows_word, kind_for};
+ghost use Rattle.rv_assembler.specs.Shape.{knows_word, kind_for, is_name, is_colon};
 ghost use Rattle.rv_assembler.specs.Operand.{token_at};
 ghost use Rattle.rv_assembler.specs.Reading.{extent_for, directive_for, statement_for, statement_of, statement_in, said, labelled, read_tokens, fault_of_line, reading_of, is_version, is_blank_line, version_line};
 
@@ -196,12 +196,19 @@ fn labelled(
     }
 }
 
+/// Whether a line that begins with these tokens begins with a label.
+fn is_label(first: Token, second: Token) -> bool
+    ensures { result ≡ (is_name first.kind && is_colon second.kind) }
+{
+    is_name(first) && matches!(second.kind, TokenKind::Colon)
+}
+
 /// What these tokens of a line say.
 fn read_tokens(version_2: bool, text: &[u8], line: u32, tokens: &[Token]) -> Reading
     ensures { result ≡ read_tokens version_2 text.now line tokens.now }
 {
     match tokens {
-        [label, colon, rest @ ..] if is_name(*label) && matches!(colon.kind, TokenKind::Colon) => {
+        [label, colon, rest @ ..] if is_label(*label, *colon) => {
             labelled(text, line, *label, statement(version_2, text, line, rest))
         }
         _ => said(line, statement(version_2, text, line, tokens)),

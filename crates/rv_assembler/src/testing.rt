@@ -31,7 +31,6 @@ fn is_lost(emission: Option<Emission>) -> bool
 }
 
 /// Whether the interval lies in the region, and so do `count - 1` more, each a step further than the one before.
-#[tactic(auto, using(crate::proofs::LoopLemmas::stepped_more))]
 fn stepped_fits(lo: i128, hi: i128, step: i64, len: i64, count: u32) -> bool
     ensures { result ≡ stepped_fits len step lo hi count }
 {
@@ -268,7 +267,12 @@ fn is_on(phase: u32, family: Family, task: Start) -> bool
 fn core_in_use(tasks: &[Start], phase: u32, family: Family) -> bool
     ensures { result ≡ core_in_use tasks.now phase family }
 {
-    tasks.iter().any(|task| is_on(phase, family, *task))
+    for task in tasks {
+        if is_on(phase, family, *task) {
+            return true;
+        }
+    }
+    false
 }
 
 /// Whether the statement may not stand here.

@@ -3,4 +3,4 @@ use Rattle.std.specs.BTreeMap.{IsEmpty}
 use Rattle.rv_assembler.proofs.names.empty_shelves.Given as goal
 
 abbrev pub invariant-loop-shelf : goal.invariant-loop-shelf
-invariant-loop-shelf l = All IsEmpty l.shelves.items
+invariant-loop-shelf l = All IsEmpty l.shelves
