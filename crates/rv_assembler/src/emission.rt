@@ -5,7 +5,7 @@ ghost use Rattle.rv_isa.specs.Table.{is_stored};
 ghost use Rattle.rv_assembler.specs.Lookup.{name_lookup};
 ghost use Rattle.rv_assembler.specs.Number.{is_upper, is_jump, is_branch, is_immediate, is_operand};
 ghost use Rattle.rv_assembler.specs.Operand.{bytes_of};
-ghost use Rattle.rv_assembler.specs.Emission.{one_if, upper, jump, branch, store, high, low, loaded, region_address, label_address, offset_of, loaded_address, emission};
+ghost use Rattle.rv_assembler.specs.Emission.{one_if, upper, jump, branch, store, high, low, loaded, region_address, label_address, distance, offset_of, loaded_address, emission};
 ghost use Rattle.rv_assembler.specs.AddedLine.{emission_at};
 ghost use Rattle.rv_isa.specs.declared.instr.Instr.TheVariants.{Lui, Auipc, Jal, Jalr, Branch, Load, Store, OpImm, Op};
 
@@ -185,6 +185,13 @@ fn region_address(word: u32) -> u32
     word.wrapping_mul(4).wrapping_add(0x1000_0000)
 }
 
+/// The distance of a code word from the one with the number `here`, in bytes.
+fn distance(here: u32, place: u32) -> i64
+    ensures { result ≡ distance here place }
+{
+    (i64::from(place) - i64::from(here)) * 4
+}
+
 /// The distance of a target from the code word number `here`, in bytes; None if it is no label.
 fn offset<'a>(text: &'a [u8], names: &Names<'a>, here: u32, target: Token) -> Option<i64>
     ensures { result ≡ offset_of text.now (name_lookup names.now) here target }
@@ -193,7 +200,7 @@ fn offset<'a>(text: &'a [u8], names: &Names<'a>, here: u32, target: Token) -> Op
         return Some(number);
     }
     match names.meaning(bytes(text, target)) {
-        Some(Meaning::Label { place, .. }) => Some((i64::from(place) - i64::from(here)) * 4),
+        Some(Meaning::Label { place, .. }) => Some(distance(here, place)),
         _ => None,
     }
 }

@@ -254,13 +254,20 @@ fn unknown<'a>(
     }
 }
 
+/// Whether a family of tasks has one on this core.
+fn has_core(family: Family, core: u32) -> bool
+    ensures { result ≡ is_within family.core (family.core +ℤ family.count) (pos core) }
+{
+    let core = i128::from(core);
+    let first = i128::from(family.core);
+    first <= core && core < first + i128::from(family.count)
+}
+
 /// Whether it is a task of the phase on one of the family's cores.
 fn is_on(phase: u32, family: Family, task: Start) -> bool
     ensures { result ≡ is_on phase family task }
 {
-    let core = i128::from(task.core);
-    let first = i128::from(family.core);
-    task.phase == phase && first <= core && core < first + i128::from(family.count)
+    task.phase == phase && has_core(family, task.core)
 }
 
 /// Whether one of the family's cores has a task in the phase.
