@@ -69,11 +69,14 @@ total-whole v text names d rs is =
     let sound = total-sound v text names no_draft d rs (record { sound = sound-none names; within = within-none }) is in
     whole names d sound.sound sound.within
 
-draft-sound : (text : List ℕ) (d : Draft) → draft_of text ≡ Ok d → IsProgram (finished_program d)
-draft-sound text d is =
+pub draft-whole : (text : List ℕ) (d : Draft) → draft_of text ≡ Ok d → IsWholeDraft d
+draft-whole text d is =
     let ls = lines_of text in
     let version = version_line text ls in
-    (total-whole (nat_lt 0 version) text (adding.gathered_names text) d (map (reading_of version text) ls) is).program
+    total-whole (nat_lt 0 version) text (adding.gathered_names text) d (map (reading_of version text) ls) is
+
+draft-sound : (text : List ℕ) (d : Draft) → draft_of text ≡ Ok d → IsProgram (finished_program d)
+draft-sound text d is = (draft-whole text d is).program
 
 -- a text's program is well formed
 pub source-well-formed : (text : List ℕ) (P : ProgramParts) → source text ≡ Ok P → IsProgram P

@@ -4,8 +4,7 @@ ghost use Rattle.region_table.specs.Program.{IsProgram};
 ghost use Rattle.rv_assembler.specs.Lookup.{name_lookup};
 ghost use Rattle.rv_assembler.specs.declared.fault.SourceFault as fault;
 ghost use Rattle.rv_assembler.specs.declared.fault.SourceFault.TheVariants.{TooLarge, Memory as NoMemory};
-ghost use Rattle.rv_assembler.specs.Adding.{no_draft, total, draft_of, added_program};
-ghost use Rattle.rv_assembler.specs.Whole.{IsWholeDraft};
+ghost use Rattle.rv_assembler.specs.Adding.{no_draft, total, program_in, draft_of, added_program};
 ghost use Rattle.rv_assembler.specs.AddedLine.{draft_behind};
 ghost use Rattle.rv_assembler.specs.Source.{source};
 
@@ -66,29 +65,12 @@ fn add_lines<'a>(
     Ok(())
 }
 
-/// What the lines add up to, or the first fault.
-fn add_up<'a>(
-    alloc: Global,
-    version_2: bool,
-    text: &'a [u8],
-    names: &Names<'a>,
-    readings: &[Reading],
-) -> Result<Draft, SourceFault>
-    ensures ok { IfOk result (λ draft. total version_2 text.now (name_lookup names.now) no_draft readings.now ≡ Ok draft) }
-    ensures err { IfErr result (λ f. f ≢ NoMemory → total version_2 text.now (name_lookup names.now) no_draft readings.now ≡ Err f) }
-    ensures whole { IfOk result IsWholeDraft }
-{
-    let mut draft = Draft::new(alloc);
-    add_lines(alloc, version_2, text, names, &mut draft, readings)?;
-    Ok(draft)
-}
-
-/// What the lines of a text add up to, or the text's first fault.
-fn draft_in(alloc: Global, text: &[u8]) -> Result<Draft, SourceFault>
-    requires { length text.now ≤ 1048576 }
-    ensures ok { IfOk result (λ draft. draft_of text.now ≡ Ok draft) }
+/// Adds the lines of a text to an empty draft, up to the first with a fault.
+fn add_text(alloc: Global, text: &[u8], draft: &mut Draft) -> Result<(), SourceFault>
+    requires text { length text.now ≤ 1048576 }
+    requires empty { draft.old ≡ no_draft }
+    ensures ok { OnOk result (draft_of text.now ≡ Ok draft.new) }
     ensures err { IfErr result (λ f. f ≢ NoMemory → draft_of text.now ≡ Err f) }
-    ensures whole { IfOk result IsWholeDraft }
 {
     let tokenized = tokens(alloc, text)?;
     let lines = tokenized.as_slice();
@@ -96,7 +78,18 @@ fn draft_in(alloc: Global, text: &[u8]) -> Result<Draft, SourceFault>
     let read = read_lines(alloc, version, text, lines)?;
     let readings = read.as_slice();
     let names = survey(alloc, text, readings)?;
-    add_up(alloc, 0 < version, text, &names, readings)
+    add_lines(alloc, 0 < version, text, &names, draft, readings)
+}
+
+/// The program of a text that isn't too large, or the text's first fault.
+fn small_program(alloc: Global, text: &[u8]) -> Result<Program, SourceFault>
+    requires { length text.now ≤ 1048576 }
+    ensures ok { IfOk result (λ program. program_in (draft_of text.now) ≡ Ok program) }
+    ensures err { IfErr result (λ f. f ≢ NoMemory → program_in (draft_of text.now) ≡ Err f) }
+{
+    let mut draft = Draft::new(alloc);
+    add_text(alloc, text, &mut draft)?;
+    Ok(finish(alloc, draft)?)
 }
 
 /// The program that the lines of a text add up to, or else the text's first fault.
@@ -108,8 +101,7 @@ fn program_by_lines(alloc: Global, text: &[u8]) -> Result<Program, SourceFault>
     if MOST_OF_TEXT < text.len() {
         return Err(SourceFault::TooLarge);
     }
-    let draft = draft_in(alloc, text)?;
-    Ok(finish(alloc, draft)?)
+    small_program(alloc, text)
 }
 
 /// The program of a source text, or the text's first fault (the language is this project's profile; the instructions are those
