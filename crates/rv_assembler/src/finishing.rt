@@ -120,12 +120,10 @@ fn is_task(phase: u32, core: u32, task: Start) -> bool
 fn task_on(tasks: &[Start], phase: u32, core: u32) -> Option<Start>
     ensures { result ≡ find (is_task phase core) tasks.now }
 {
-    for task in tasks {
-        if is_task(phase, core, *task) {
-            return Some(*task);
-        }
-    }
-    None
+    tasks
+        .iter()
+        .copied()
+        .find(|task| is_task(phase, core, *task))
 }
 
 /// Adds a task, if there is one.

@@ -274,12 +274,7 @@ fn is_on(phase: u32, family: Family, task: Start) -> bool
 fn core_in_use(tasks: &[Start], phase: u32, family: Family) -> bool
     ensures { result ≡ core_in_use tasks.now phase family }
 {
-    for task in tasks {
-        if is_on(phase, family, *task) {
-            return true;
-        }
-    }
-    false
+    tasks.iter().any(|task| is_on(phase, family, *task))
 }
 
 /// Whether the statement may not stand here.
