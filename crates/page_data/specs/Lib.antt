@@ -1,3 +1,4 @@
+pub mod Pieces
 pub mod Json
 pub mod Rows
 pub mod Program

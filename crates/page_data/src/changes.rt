@@ -1,12 +1,15 @@
 //! Changes.
-ghost use Rattle.std.specs.Prelude.{true, ◌≡◌, ◌++◌, ◌∷◌, [], codes, map, OnOk};
+ghost use Rattle.std.specs.Prelude.{◌≡◌, ◌++◌, ◌∷◌, [], codes, map, OnOk};
 ghost use Rattle.std.specs.Fmt.{decimal};
 ghost use Rattle.rv_core.specs.Ending.{shown_end};
-ghost use Rattle.page_data.specs.Json.{list_text, item_texts, further_all};
+ghost use Rattle.page_data.specs.Json.{further_all};
 ghost use Rattle.page_data.specs.Rows.{actor_number, signature_text, cause_fields, tagged, entry_tag, entry_number, flag_number, wait_numbers, home_item, holder_field, core_numbers, change_item, actor_changes_text};
 
-use crate::json::{push_all, push_gap};
-use crate::mails::{flag_number, push_actor, push_signature};
+use crate::json::{push_all, push_further};
+use crate::lists::{Item, push_named_list};
+use crate::mails::{actor_number, flag_number, push_signed_numbers};
+use crate::pieces::Piece::{Bytes, Long, Number};
+use crate::pieces::push_pieces;
 use dn_base::{CoreId, LockId, Memory, PhaseId, WordId};
 use registration_protocol::NodeWait;
 use registry_bank::BankWord;
@@ -18,22 +21,25 @@ use word_cache::Entry;
 use write_signature::Signature;
 
 /// Adds how a task has ended, or which lock it waits for.
+#[tactic(auto, unfolding(crate::specs::Json::further_all))]
 pub(crate) fn push_cause(out: &mut Vec<u8>, end: EndShown) -> Result<(), Memory>
     ensures { OnOk result (out.new.items ≡ out.old.items ++ cause_fields end) }
 {
     match end {
         EndShown::Finished => push(out, b",\"finished\""),
         EndShown::Fuel => push(out, b",\"fuel\""),
-        EndShown::Trap { kind, pc, value } => {
-            push(out, b",\"trap\",\"")?;
-            push(out, kind_name(kind))?;
-            push(out, b"\"")?;
-            push_all(out, &[pc, value])
-        }
-        EndShown::Waits { lock } => {
-            push(out, b",\"waits\"")?;
-            push_all(out, &[lock.0])
-        }
+        EndShown::Trap { kind, pc, value } => push_pieces(
+            out,
+            &[
+                Bytes(b",\"trap\",\""),
+                Bytes(kind_name(kind)),
+                Bytes(b"\","),
+                Number(pc),
+                Bytes(b","),
+                Number(value),
+            ],
+        ),
+        EndShown::Waits { lock } => push_pieces(out, &[Bytes(b",\"waits\","), Number(lock.0)]),
     }
 }
 
@@ -41,9 +47,7 @@ pub(crate) fn push_cause(out: &mut Vec<u8>, end: EndShown) -> Result<(), Memory>
 fn push_tag(out: &mut Vec<u8>, tag: &[u8]) -> Result<(), Memory>
     ensures { OnOk result (out.new.items ≡ out.old.items ++ codes "[\"" ++ (tag.now ++ codes "\"")) }
 {
-    push(out, b"[\"")?;
-    push(out, tag)?;
-    push(out, b"\"")
+    push_pieces(out, &[Bytes(b"[\""), Bytes(tag), Bytes(b"\"")])
 }
 
 /// Adds a change that has numbers alone.
@@ -56,13 +60,48 @@ fn push_tagged(out: &mut Vec<u8>, tag: &[u8], numbers: &[u32]) -> Result<(), Mem
     push(out, b"]")
 }
 
+/// Adds a change that has one number.
+#[tactic(auto, unfolding(crate::specs::Json::further_all, crate::specs::Rows::tagged))]
+fn push_one(out: &mut Vec<u8>, tag: &[u8], number: u32) -> Result<(), Memory>
+    ensures { OnOk result (out.new.items ≡ out.old.items ++ tagged tag.now (further_all (number ∷ []))) }
+{
+    push_pieces(
+        out,
+        &[
+            Bytes(b"[\""),
+            Bytes(tag),
+            Bytes(b"\","),
+            Number(number),
+            Bytes(b"]"),
+        ],
+    )
+}
+
+/// Adds a change that has two numbers.
+#[tactic(auto, unfolding(crate::specs::Json::further_all, crate::specs::Rows::tagged))]
+fn push_two(out: &mut Vec<u8>, tag: &[u8], first: u32, second: u32) -> Result<(), Memory>
+    ensures { OnOk result (out.new.items ≡ out.old.items ++ tagged tag.now (further_all (first ∷ second ∷ []))) }
+{
+    push_pieces(
+        out,
+        &[
+            Bytes(b"[\""),
+            Bytes(tag),
+            Bytes(b"\","),
+            Number(first),
+            Bytes(b","),
+            Number(second),
+            Bytes(b"]"),
+        ],
+    )
+}
+
 /// Adds a change that has nothing after its tag.
 #[tactic(auto, unfolding(crate::specs::Rows::tagged))]
 fn push_bare(out: &mut Vec<u8>, tag: &[u8]) -> Result<(), Memory>
     ensures { OnOk result (out.new.items ≡ out.old.items ++ tagged tag.now []) }
 {
-    push_tag(out, tag)?;
-    push(out, b"]")
+    push_pieces(out, &[Bytes(b"[\""), Bytes(tag), Bytes(b"\"]")])
 }
 
 fn entry_tag(entry: Entry) -> &'static [u8]
@@ -114,8 +153,7 @@ fn push_signed(out: &mut Vec<u8>, lock: LockId, signature: &Signature) -> Result
     ensures { OnOk result (out.new.items ≡ out.old.items ++ tagged (codes "s") (further_all (lock.0 ∷ []) ++ signature_text signature.now)) }
 {
     push_tag(out, b"s")?;
-    push_all(out, &[lock.0])?;
-    push_signature(out, signature)?;
+    push_signed_numbers(out, &[lock.0], signature)?;
     push(out, b"]")
 }
 
@@ -124,8 +162,8 @@ fn push_home(out: &mut Vec<u8>, word: WordId, there: BankWord) -> Result<(), Mem
     ensures { OnOk result (out.new.items ≡ out.old.items ++ home_item word there) }
 {
     match there {
-        BankWord::Home(value) => push_tagged(out, b"H", &[word.0, value]),
-        BankWord::Reg(core) => push_tagged(out, b"G", &[word.0, core.0]),
+        BankWord::Home(value) => push_two(out, b"H", word.0, value),
+        BankWord::Reg(core) => push_two(out, b"G", word.0, core.0),
     }
 }
 
@@ -145,13 +183,13 @@ fn push_cores(out: &mut Vec<u8>, cores: &[CoreId]) -> Result<(), Memory>
     ensures { OnOk result (out.new.items ≡ out.old.items ++ further_all (core_numbers cores.now)) }
 {
     for core in cores {
-        push_all(out, &[core.0])?;
+        push_further(out, core.0)?;
     }
     Ok(())
 }
 
 /// Adds the holder and the queue of a lock.
-#[tactic(auto, unfolding(crate::specs::Rows::tagged))]
+#[tactic(auto, unfolding(crate::specs::Json::further_all, crate::specs::Rows::tagged))]
 fn push_queue(
     out: &mut Vec<u8>,
     lock: LockId,
@@ -160,15 +198,14 @@ fn push_queue(
 ) -> Result<(), Memory>
     ensures { OnOk result (out.new.items ≡ out.old.items ++ tagged (codes "o") (further_all (lock.0 ∷ []) ++ (holder_field holder ++ further_all (core_numbers waiting.now)))) }
 {
-    push_tag(out, b"o")?;
-    push_all(out, &[lock.0])?;
+    push_pieces(out, &[Bytes(b"[\"o\","), Number(lock.0)])?;
     push_holder(out, holder)?;
     push_cores(out, waiting)?;
     push(out, b"]")
 }
 
 /// Adds what the keeper is.
-#[tactic(auto, unfolding(crate::specs::Rows::tagged))]
+#[tactic(auto, unfolding(crate::specs::Json::further_all, crate::specs::Rows::tagged))]
 fn push_barrier(
     out: &mut Vec<u8>,
     phase: PhaseId,
@@ -177,8 +214,15 @@ fn push_barrier(
 ) -> Result<(), Memory>
     ensures { OnOk result (out.new.items ≡ out.old.items ++ tagged (codes "k") (further_all (phase.0 ∷ flag_number bad ∷ []) ++ further_all (core_numbers arrived.now))) }
 {
-    push_tag(out, b"k")?;
-    push_all(out, &[phase.0, flag_number(bad)])?;
+    push_pieces(
+        out,
+        &[
+            Bytes(b"[\"k\","),
+            Number(phase.0),
+            Bytes(b","),
+            Number(flag_number(bad)),
+        ],
+    )?;
     push_cores(out, arrived)?;
     push(out, b"]")
 }
@@ -189,22 +233,23 @@ fn push_change(out: &mut Vec<u8>, change: &Change) -> Result<(), Memory>
     ensures { OnOk result (out.new.items ≡ out.old.items ++ change_item change.now) }
 {
     match change {
-        Change::Gone(word) => push_tagged(out, b"I", &[word.0]),
-        Change::Holds(word, entry) => push_tagged(
+        Change::Gone(word) => push_one(out, b"I", word.0),
+        Change::Holds(word, entry) => push_two(
             out,
             entry_tag(*entry),
-            &[word.0, entry_number(*entry)],
+            word.0,
+            entry_number(*entry),
         ),
-        Change::Retired { pc } => push_tagged(out, b"x", &[*pc]),
-        Change::At { pc, retired } => push_tagged(out, b"j", &[*pc, *retired]),
+        Change::Retired { pc } => push_one(out, b"x", *pc),
+        Change::At { pc, retired } => push_two(out, b"j", *pc, *retired),
         Change::Ended(by) => push_ended(out, *by),
         Change::Waits(wait) => push_tagged(out, b"w", &wait_numbers(*wait)),
-        Change::Takes(lock) => push_tagged(out, b"+", &[lock.0]),
-        Change::Gives(lock) => push_tagged(out, b"-", &[lock.0]),
+        Change::Takes(lock) => push_one(out, b"+", lock.0),
+        Change::Gives(lock) => push_one(out, b"-", lock.0),
         Change::Signed(lock, signature) => push_signed(out, *lock, signature),
         Change::Arrived => push_bare(out, b"a"),
         Change::Halted => push_bare(out, b"z"),
-        Change::Begins(phase) => push_tagged(out, b"b", &[phase.0]),
+        Change::Begins(phase) => push_one(out, b"b", phase.0),
         Change::Home(word, there) => push_home(out, *word, *there),
         Change::Queue {
             lock,
@@ -216,63 +261,27 @@ fn push_change(out: &mut Vec<u8>, change: &Change) -> Result<(), Memory>
             bad,
             arrived,
         } => push_barrier(out, *phase, *bad, arrived.as_slice()),
-        Change::Loaded(seen) => push_tagged(out, b"ld", &[seen.word.0, seen.value]),
-        Change::Stored(word, value) => push_tagged(out, b"st", &[word.0, *value]),
+        Change::Loaded(seen) => push_two(out, b"ld", seen.word.0, seen.value),
+        Change::Stored(word, value) => push_two(out, b"st", word.0, *value),
     }
 }
 
-fn push_change_items(out: &mut Vec<u8>, changes: &[Change]) -> Result<(), Memory>
-    ensures { OnOk result (out.new.items ≡ out.old.items ++ item_texts change_item true changes.now) }
-{
-    let mut first = true;
-    for change in changes {
-        push_gap(out, first)?;
-        push_change(out, change)?;
-        first = false;
+impl Item for Change {
+    ghost written = { change_item };
+
+    fn push_item(&self, out: &mut Vec<u8>) -> Result<(), Memory> {
+        push_change(out, self)
     }
-    Ok(())
 }
 
-/// Adds changes.
-#[tactic(auto, unfolding(crate::specs::Json::list_text))]
-pub(crate) fn push_changes(out: &mut Vec<u8>, changes: &[Change]) -> Result<(), Memory>
-    ensures { OnOk result (out.new.items ≡ out.old.items ++ list_text change_item changes.now) }
-{
-    push(out, b"[")?;
-    push_change_items(out, changes)?;
-    push(out, b"]")
-}
+/// An actor, and changes of it.
+impl Item for ActorChanges {
+    ghost written = { actor_changes_text };
 
-/// Adds an actor, and changes of it.
-#[tactic(auto, unfolding(crate::specs::Rows::actor_changes_text))]
-fn push_one_actor(out: &mut Vec<u8>, change: &ActorChanges) -> Result<(), Memory>
-    ensures { OnOk result (out.new.items ≡ out.old.items ++ actor_changes_text change.now) }
-{
-    push(out, b"[")?;
-    push_actor(out, change.actor)?;
-    push(out, b",")?;
-    push_changes(out, change.changes.as_slice())?;
-    push(out, b"]")
-}
-
-fn push_actor_items(out: &mut Vec<u8>, changes: &[ActorChanges]) -> Result<(), Memory>
-    ensures { OnOk result (out.new.items ≡ out.old.items ++ item_texts actor_changes_text true changes.now) }
-{
-    let mut first = true;
-    for change in changes {
-        push_gap(out, first)?;
-        push_one_actor(out, change)?;
-        first = false;
+    #[tactic(auto, unfolding(crate::specs::Rows::actor_changes_text))]
+    fn push_item(&self, out: &mut Vec<u8>) -> Result<(), Memory> {
+        push_pieces(out, &[Bytes(b"["), Long(actor_number(self.actor))])?;
+        push_named_list(out, b",", self.changes.as_slice())?;
+        push(out, b"]")
     }
-    Ok(())
-}
-
-/// Adds changes of all actors.
-#[tactic(auto, unfolding(crate::specs::Json::list_text))]
-pub(crate) fn push_actor_changes(out: &mut Vec<u8>, changes: &[ActorChanges]) -> Result<(), Memory>
-    ensures { OnOk result (out.new.items ≡ out.old.items ++ list_text actor_changes_text changes.now) }
-{
-    push(out, b"[")?;
-    push_actor_items(out, changes)?;
-    push(out, b"]")
 }

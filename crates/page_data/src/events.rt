@@ -1,69 +1,47 @@
 //! The page's first state, and its events.
 ghost use Rattle.std.specs.Prelude.{◌≡◌, ◌++◌, ◌+◌, ◌≤◌, ◌<◌, ◌∷◌, [], true, length, IfOk, OnOk};
-ghost use Rattle.std.specs.Fmt.{decimal};
 ghost use Rattle.text_pieces.specs.Pieces.{newline};
 ghost use Rattle.machine_rules.specs.Next.{next, enabled};
 ghost use Rattle.machine_rules.specs.Runs.{after, IsRun};
 ghost use Rattle.run_changes.specs.Events.{event_made};
-ghost use Rattle.page_data.specs.Json.{gap, list_text, item_texts};
+ghost use Rattle.page_data.specs.Json.{gap};
 ghost use Rattle.page_data.specs.Rows.{row_head, row_tail, event_row};
 ghost use Rattle.page_data.specs.Page.{changes_field, next_field, mails_field, start_part, event_rows, event_list, events_part};
 
-use crate::changes::{push_actor_changes, push_changes};
 use crate::json::push_gap;
-use crate::mails::{push_actor, push_handled, push_mails, push_sent};
+use crate::lists::push_named_list;
+use crate::mails::{actor_number, push_handled, push_mail_items, push_sent};
+use crate::pieces::Piece::{Bytes, Long, Number};
+use crate::pieces::push_pieces;
 use dn_base::Memory;
 use dn_machine::Machine;
 use message_net::Event;
 use run_changes::{EventMade, changes_since, make};
 use std::alloc::Global;
-use text_pieces::{push, push_decimal};
-
-fn push_number_items(out: &mut Vec<u8>, numbers: &[u32]) -> Result<(), Memory>
-    ensures { OnOk result (out.new.items ≡ out.old.items ++ item_texts decimal true numbers.now) }
-{
-    let mut first = true;
-    for number in numbers {
-        push_gap(out, first)?;
-        push_decimal(out, *number)?;
-        first = false;
-    }
-    Ok(())
-}
-
-#[tactic(auto, unfolding(crate::specs::Json::list_text))]
-fn push_numbers(out: &mut Vec<u8>, numbers: &[u32]) -> Result<(), Memory>
-    ensures { OnOk result (out.new.items ≡ out.old.items ++ list_text decimal numbers.now) }
-{
-    push(out, b"[")?;
-    push_number_items(out, numbers)?;
-    push(out, b"]")
-}
+use text_pieces::push;
 
 #[tactic(auto, unfolding(crate::specs::Page::changes_field))]
 fn push_since(alloc: Global, out: &mut Vec<u8>, machine: &Machine) -> Result<(), Memory>
     ensures { OnOk result (out.new.items ≡ out.old.items ++ changes_field machine.now.state) }
 {
     let changes = changes_since(alloc, machine)?;
-    push(out, b",\"start\":{\"changes\":")?;
-    push_actor_changes(out, changes.as_slice())
+    push_named_list(out, b",\"start\":{\"changes\":", changes.as_slice())
 }
 
 #[tactic(auto, unfolding(crate::specs::Page::next_field))]
 fn push_next(out: &mut Vec<u8>, machine: &Machine) -> Result<(), Memory>
     ensures { OnOk result (out.new.items ≡ out.old.items ++ next_field machine.now.state) }
 {
-    push(out, b",\"next\":")?;
-    push_numbers(out, machine.numbers())
+    push_named_list(out, b",\"next\":", machine.numbers())
 }
 
-#[tactic(auto, unfolding(crate::specs::Page::mails_field))]
+#[tactic(auto, unfolding(crate::specs::Json::list_text, crate::specs::Page::mails_field))]
 fn push_flying(out: &mut Vec<u8>, machine: &Machine) -> Result<(), Memory>
     ensures { OnOk result (out.new.items ≡ out.old.items ++ mails_field machine.now.state) }
 {
-    push(out, b",\"mails\":")?;
-    push_mails(out, machine.pool())?;
-    push(out, b"}")
+    push(out, b",\"mails\":[")?;
+    push_mail_items(out, machine.pool())?;
+    push(out, b"]}")
 }
 
 /// Adds what leads to a machine's state from the beginning of its run, the number of each actor's next mail, and the mails in flight.
@@ -80,11 +58,16 @@ pub(crate) fn push_start(alloc: Global, out: &mut Vec<u8>, machine: &Machine) ->
 fn push_event_head(out: &mut Vec<u8>, event: Event, made: &EventMade) -> Result<(), Memory>
     ensures { OnOk result (out.new.items ≡ out.old.items ++ row_head event made.now) }
 {
-    push(out, b"[")?;
-    push_decimal(out, made.kind.index() as u32)?;
-    push(out, b",")?;
-    push_actor(out, made.actor)?;
-    push(out, b",")?;
+    push_pieces(
+        out,
+        &[
+            Bytes(b"["),
+            Number(made.kind.index() as u32),
+            Bytes(b","),
+            Long(actor_number(made.actor)),
+            Bytes(b","),
+        ],
+    )?;
     push_handled(out, event)
 }
 
@@ -92,28 +75,20 @@ fn push_event_head(out: &mut Vec<u8>, event: Event, made: &EventMade) -> Result<
 fn push_event_tail(out: &mut Vec<u8>, made: &EventMade) -> Result<(), Memory>
     ensures { OnOk result (out.new.items ≡ out.old.items ++ row_tail made.now) }
 {
-    push(out, b",")?;
-    push_changes(out, made.changes.as_slice())?;
+    push_named_list(out, b",", made.changes.as_slice())?;
     push_sent(out, made.sent.as_slice())?;
     push(out, b"]")
 }
 
-/// Adds what an event did that was made.
-#[tactic(auto, unfolding(crate::specs::Rows::event_row))]
-fn push_event(out: &mut Vec<u8>, event: Event, made: &EventMade) -> Result<(), Memory>
-    ensures { OnOk result (out.new.items ≡ out.old.items ++ event_row event made.now) }
-{
-    push_event_head(out, event, made)?;
-    push_event_tail(out, made)
-}
-
 /// Adds the row of an event that was made.
+#[tactic(auto, unfolding(crate::specs::Rows::event_row))]
 fn push_row(out: &mut Vec<u8>, first: bool, event: Event, made: &EventMade) -> Result<(), Memory>
     ensures { OnOk result (out.new.items ≡ out.old.items ++ (gap first ++ (newline ++ event_row event made.now))) }
 {
     push_gap(out, first)?;
     push(out, b"\n")?;
-    push_event(out, event, made)
+    push_event_head(out, event, made)?;
+    push_event_tail(out, made)
 }
 
 /// Makes an event, which may come, and adds its row.

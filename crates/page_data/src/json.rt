@@ -22,8 +22,7 @@ fn push_escape(out: &mut Vec<u8>, byte: u8) -> Result<(), Memory>
         return push(out, b"\\n");
     }
     let digits = to_hexadecimal(u32::from(byte));
-    push(out, b"\\u00")?;
-    push(out, &[digits[8], digits[9]])
+    push(out, &[b'\\', b'u', b'0', b'0', digits[8], digits[9]])
 }
 
 /// Adds a byte of a string.
@@ -58,6 +57,14 @@ pub(crate) fn push_string(out: &mut Vec<u8>, bytes: &[u8]) -> Result<(), Memory>
     push(out, b"\"")
 }
 
+/// Adds a string after what names it.
+pub(crate) fn push_named_string(out: &mut Vec<u8>, name: &[u8], bytes: &[u8]) -> Result<(), Memory>
+    ensures { OnOk result (out.new.items ≡ out.old.items ++ (name.now ++ string_text bytes.now)) }
+{
+    push(out, name)?;
+    push_string(out, bytes)
+}
+
 /// Adds a comma, but before the first item of a list.
 pub(crate) fn push_gap(out: &mut Vec<u8>, first: bool) -> Result<(), Memory>
     ensures { OnOk result (out.new.items ≡ out.old.items ++ gap first) }
@@ -66,7 +73,7 @@ pub(crate) fn push_gap(out: &mut Vec<u8>, first: bool) -> Result<(), Memory>
 }
 
 /// Adds a number after a comma.
-fn push_further(out: &mut Vec<u8>, number: u32) -> Result<(), Memory>
+pub(crate) fn push_further(out: &mut Vec<u8>, number: u32) -> Result<(), Memory>
     ensures { OnOk result (out.new.items ≡ out.old.items ++ further number) }
 {
     push(out, b",")?;

@@ -6,8 +6,10 @@ mod changes;
 mod events;
 mod head;
 mod json;
+mod lists;
 mod mails;
 mod page;
+mod pieces;
 mod program;
 
 pub use page::{MOST_ROWS, Page, page_text};

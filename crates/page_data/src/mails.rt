@@ -1,17 +1,19 @@
 //! Actors, messages and mails.
 ghost use Rattle.std.specs.Prelude.{true, ◌≡◌, ◌++◌, ◌∷◌, ◌+◌, ◌≤◌, [], OnOk};
-ghost use Rattle.std.specs.Fmt.{decimal};
-ghost use Rattle.page_data.specs.Json.{list_text, item_texts, further_all};
+ghost use Rattle.page_data.specs.Json.{item_texts, further_all};
 ghost use Rattle.page_data.specs.Rows.{actor_number, flag_number, bit_text, bit_texts, all_bits, signature_text, message_fields, outgoing_fields, outgoing_text, mail_item, handled_text, sent_text};
 
 use crate::json::{push_all, push_gap};
+use crate::lists::{Item, push_named_list};
+use crate::pieces::Piece::{Bytes, Long, Number};
+use crate::pieces::push_pieces;
 use dn_base::Memory;
 use message_net::{Actor, Event, Mail, Message, Outgoing, Pool};
-use text_pieces::{push, push_decimal, push_long};
+use text_pieces::push;
 use write_signature::Signature;
 
 /// The number of an actor: cores from 0 on, banks from 16 on, and the keeper.
-fn actor_number(actor: Actor) -> u64
+pub(crate) fn actor_number(actor: Actor) -> u64
     ensures { result ≡ actor_number actor }
 {
     match actor {
@@ -19,13 +21,6 @@ fn actor_number(actor: Actor) -> u64
         Actor::Bank(bank) => 16 + u64::from(bank.0),
         Actor::Keeper => 32,
     }
-}
-
-/// Adds the number of an actor.
-pub(crate) fn push_actor(out: &mut Vec<u8>, actor: Actor) -> Result<(), Memory>
-    ensures { OnOk result (out.new.items ≡ out.old.items ++ decimal (actor_number actor)) }
-{
-    push_long(out, actor_number(actor))
 }
 
 /// A flag as a number.
@@ -63,11 +58,34 @@ fn push_all_bits(out: &mut Vec<u8>, signature: &Signature) -> Result<(), Memory>
 
 /// Adds a signature.
 #[tactic(auto, unfolding(crate::specs::Rows::signature_text))]
-pub(crate) fn push_signature(out: &mut Vec<u8>, signature: &Signature) -> Result<(), Memory>
+fn push_signature(out: &mut Vec<u8>, signature: &Signature) -> Result<(), Memory>
     ensures { OnOk result (out.new.items ≡ out.old.items ++ signature_text signature.now) }
 {
     push_all(out, &[signature.phase().0])?;
     push_all_bits(out, signature)
+}
+
+/// Adds numbers, each after a comma, and a signature.
+pub(crate) fn push_signed_numbers(
+    out: &mut Vec<u8>,
+    numbers: &[u32],
+    signature: &Signature,
+) -> Result<(), Memory>
+    ensures { OnOk result (out.new.items ≡ out.old.items ++ (further_all numbers.now ++ signature_text signature.now)) }
+{
+    push_all(out, numbers)?;
+    push_signature(out, signature)
+}
+
+/// Adds two numbers, each after a comma.
+#[tactic(auto, unfolding(crate::specs::Json::further_all))]
+fn push_two_numbers(out: &mut Vec<u8>, first: u32, second: u32) -> Result<(), Memory>
+    ensures { OnOk result (out.new.items ≡ out.old.items ++ further_all (first ∷ second ∷ [])) }
+{
+    push_pieces(
+        out,
+        &[Bytes(b","), Number(first), Bytes(b","), Number(second)],
+    )
 }
 
 /// Adds what a message says.
@@ -75,67 +93,75 @@ fn push_fields(out: &mut Vec<u8>, message: &Message) -> Result<(), Memory>
     ensures { OnOk result (out.new.items ≡ out.old.items ++ message_fields message.now) }
 {
     match message {
-        Message::ReadReq { word, reader } => push_all(out, &[word.0, reader.0]),
-        Message::ReadFwd { word, reader } => push_all(out, &[word.0, reader.0]),
-        Message::DataReply { word, value } => push_all(out, &[word.0, *value]),
-        Message::RegReq { word, core } => push_all(out, &[word.0, core.0]),
-        Message::RegFwd { word, core } => push_all(out, &[word.0, core.0]),
+        Message::ReadReq { word, reader } => push_two_numbers(out, word.0, reader.0),
+        Message::ReadFwd { word, reader } => push_two_numbers(out, word.0, reader.0),
+        Message::DataReply { word, value } => push_two_numbers(out, word.0, *value),
+        Message::RegReq { word, core } => push_two_numbers(out, word.0, core.0),
+        Message::RegFwd { word, core } => push_two_numbers(out, word.0, core.0),
         Message::RegAck { word } => push_all(out, &[word.0]),
         Message::WriteBack { word, value, core } => push_all(out, &[word.0, *value, core.0]),
         Message::WbAck { word } => push_all(out, &[word.0]),
-        Message::Acquire { lock, core } => push_all(out, &[lock.0, core.0]),
+        Message::Acquire { lock, core } => push_two_numbers(out, lock.0, core.0),
         Message::Release {
             lock,
             core,
             signature,
-        } => {
-            push_all(out, &[lock.0, core.0])?;
-            push_signature(out, signature)
-        }
-        Message::Grant { lock, signature } => {
-            push_all(out, &[lock.0])?;
-            push_signature(out, signature)
-        }
-        Message::Arrived { core, bad } => push_all(out, &[core.0, flag_number(*bad)]),
+        } => push_signed_numbers(out, &[lock.0, core.0], signature),
+        Message::Grant { lock, signature } => push_signed_numbers(out, &[lock.0], signature),
+        Message::Arrived { core, bad } => push_two_numbers(out, core.0, flag_number(*bad)),
         Message::Go { phase } => push_all(out, &[phase.0]),
         Message::Halt => Ok(()),
     }
 }
 
 /// Adds to whom a message goes, its kind, and what it says.
-#[tactic(auto, unfolding(crate::specs::Rows::outgoing_fields))]
+#[tactic(auto, unfolding(crate::specs::Json::further_all, crate::specs::Rows::outgoing_fields))]
 fn push_outgoing_fields(out: &mut Vec<u8>, to: Actor, message: &Message) -> Result<(), Memory>
     ensures { OnOk result (out.new.items ≡ out.old.items ++ outgoing_fields to message.now) }
 {
-    push_actor(out, to)?;
-    push_all(out, &[message.kind().index() as u32])?;
+    push_pieces(
+        out,
+        &[
+            Long(actor_number(to)),
+            Bytes(b","),
+            Number(message.kind().index() as u32),
+        ],
+    )?;
     push_fields(out, message)
 }
 
-#[tactic(auto, unfolding(crate::specs::Rows::outgoing_text))]
-fn push_outgoing(out: &mut Vec<u8>, outgoing: &Outgoing) -> Result<(), Memory>
-    ensures { OnOk result (out.new.items ≡ out.old.items ++ outgoing_text outgoing.now) }
-{
-    push(out, b"[")?;
-    push_outgoing_fields(out, outgoing.to, &outgoing.message)?;
-    push(out, b"]")
+impl Item for Outgoing {
+    ghost written = { outgoing_text };
+
+    #[tactic(auto, unfolding(crate::specs::Rows::outgoing_text))]
+    fn push_item(&self, out: &mut Vec<u8>) -> Result<(), Memory> {
+        push(out, b"[")?;
+        push_outgoing_fields(out, self.to, &self.message)?;
+        push(out, b"]")
+    }
 }
 
 /// Adds a mail in flight.
-#[tactic(auto, unfolding(crate::specs::Rows::mail_item))]
+#[tactic(auto, unfolding(crate::specs::Json::further_all, crate::specs::Rows::mail_item))]
 fn push_mail(out: &mut Vec<u8>, mail: &Mail) -> Result<(), Memory>
     ensures { OnOk result (out.new.items ≡ out.old.items ++ mail_item mail.now) }
 {
-    push(out, b"[")?;
-    push_actor(out, mail.id.sender)?;
-    push_all(out, &[mail.id.number])?;
-    push(out, b",")?;
+    push_pieces(
+        out,
+        &[
+            Bytes(b"["),
+            Long(actor_number(mail.id.sender)),
+            Bytes(b","),
+            Number(mail.id.number),
+            Bytes(b","),
+        ],
+    )?;
     push_outgoing_fields(out, mail.to, &mail.message)?;
     push(out, b"]")
 }
 
 /// Adds the mails in flight, each after a comma but the first.
-fn push_mail_items(out: &mut Vec<u8>, pool: &Pool) -> Result<(), Memory>
+pub(crate) fn push_mail_items(out: &mut Vec<u8>, pool: &Pool) -> Result<(), Memory>
     ensures { OnOk result (out.new.items ≡ out.old.items ++ item_texts mail_item true pool.now.mails) }
 {
     let mut first = true;
@@ -147,54 +173,34 @@ fn push_mail_items(out: &mut Vec<u8>, pool: &Pool) -> Result<(), Memory>
     Ok(())
 }
 
-/// Adds the mails in flight.
-#[tactic(auto, unfolding(crate::specs::Json::list_text))]
-pub(crate) fn push_mails(out: &mut Vec<u8>, pool: &Pool) -> Result<(), Memory>
-    ensures { OnOk result (out.new.items ≡ out.old.items ++ list_text mail_item pool.now.mails) }
-{
-    push(out, b"[")?;
-    push_mail_items(out, pool)?;
-    push(out, b"]")
-}
-
 /// Adds the sender and the number of the mail that an event handles.
+#[tactic(auto, unfolding(crate::specs::Json::further_all))]
 pub(crate) fn push_handled(out: &mut Vec<u8>, event: Event) -> Result<(), Memory>
     ensures { OnOk result (out.new.items ≡ out.old.items ++ handled_text event) }
 {
     match event {
-        Event::Handle(id) => {
-            push(out, b"[")?;
-            push_actor(out, id.sender)?;
-            push_all(out, &[id.number])?;
-            push(out, b"]")
-        }
+        Event::Handle(id) => push_pieces(
+            out,
+            &[
+                Bytes(b"["),
+                Long(actor_number(id.sender)),
+                Bytes(b","),
+                Number(id.number),
+                Bytes(b"]"),
+            ],
+        ),
         Event::Instr(_) => push(out, b"-1"),
         Event::Evict(_, _) => push(out, b"-1"),
         Event::Arrive(_) => push(out, b"-1"),
     }
 }
 
-fn push_sent_items(out: &mut Vec<u8>, sent: &[Outgoing]) -> Result<(), Memory>
-    ensures { OnOk result (out.new.items ≡ out.old.items ++ item_texts outgoing_text true sent.now) }
-{
-    let mut first = true;
-    for outgoing in sent {
-        push_gap(out, first)?;
-        push_outgoing(out, outgoing)?;
-        first = false;
-    }
-    Ok(())
-}
-
 /// Adds what is sent, if something is.
-#[tactic(auto, unfolding(crate::specs::Json::list_text))]
 pub(crate) fn push_sent(out: &mut Vec<u8>, sent: &[Outgoing]) -> Result<(), Memory>
     ensures { OnOk result (out.new.items ≡ out.old.items ++ sent_text sent.now) }
 {
     if sent.is_empty() {
         return Ok(());
     }
-    push(out, b",[")?;
-    push_sent_items(out, sent)?;
-    push(out, b"]")
+    push_named_list(out, b",", sent)
 }

@@ -1,7 +1,0 @@
-use Rattle.std.proofs.Common.{◌≡◌, ◌++◌, drop, true}
-use Rattle.page_data.specs.Json.{item_texts}
-use Rattle.page_data.specs.Rows.{actor_changes_text}
-use Rattle.page_data.proofs.changes.push_actor_items.Given as goal
-
-abbrev pub invariant-loop-change : goal.invariant-loop-change
-invariant-loop-change l = l.out.items ++ item_texts actor_changes_text l.first (drop l.change-index l.changes) ≡ l.fn.out.items ++ item_texts actor_changes_text true l.changes
