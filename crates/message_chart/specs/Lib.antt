@@ -1,4 +1,3 @@
-pub mod Pieces
 pub mod Marks
 pub mod Places
 pub mod Labels

@@ -11,12 +11,11 @@ use crate::marks::{
     Point, TOP, push_attribute, push_level, push_rectangle, push_upright, push_words_begin,
     push_words_end, y_of,
 };
-use crate::pieces::Piece::{Bytes, Number};
-use crate::pieces::push_pieces;
 use crate::places::MOST_BANKS;
 use dn_base::{BankId, CoreId, Memory, PhaseId};
 use message_net::Actor;
-use text_pieces::{push, push_long};
+use text_pieces::Piece::{Bytes, Long, Number};
+use text_pieces::{push, push_long, push_pieces};
 
 /// Adds how the classes of elements look.
 #[tactic(auto, unfolding(crate::specs::Picture::style))]
@@ -204,11 +203,11 @@ fn push_phase_number(out: &mut Vec<u8>, at: Point, phase: PhaseId) -> Result<(),
         out,
         &[
             Bytes(b"<text class='denovo-text denovo-left denovo-number' x='"),
-            Number(at.x),
+            Long(at.x),
             Bytes(b"' y='"),
-            Number(at.y),
+            Long(at.y),
             Bytes(b"'>phase "),
-            Number(u64::from(phase.0)),
+            Number(phase.0),
             Bytes(b"</text>\n"),
         ],
     )

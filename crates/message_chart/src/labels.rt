@@ -7,8 +7,6 @@ ghost use Rattle.place_texts.specs.Texts.{lock_text, word_text};
 ghost use Rattle.message_chart.specs.Labels.{actor_name, actors_text, caches_text, change_text, code_label, events_text, instruction_text, label_text, machine_text, named, state_words, task_end_text, title_begin, title_text, valued, waiting_text};
 
 use crate::chart::{About, Chart, ChartRow};
-use crate::pieces::Piece::{Bytes, Number};
-use crate::pieces::push_pieces;
 use crate::states::{WordChange, WordState};
 use dn_base::{LockId, Memory, PhaseId, Shape, WordId};
 use message_net::{Actor, EventKind};
@@ -16,7 +14,8 @@ use place_texts::{push_code_place, push_lock, push_word};
 use run_report::{event_name, push_end};
 use rv_core::{End, EndShown};
 use rv_listing::push_code_word;
-use text_pieces::{push, to_hexadecimal};
+use text_pieces::Piece::{Bytes, Number};
+use text_pieces::{push, push_pieces, to_hexadecimal};
 use text_places::{CodePlace, Located};
 
 /// Adds a name and a number.
@@ -24,7 +23,7 @@ use text_places::{CodePlace, Located};
 pub(crate) fn push_named(out: &mut Vec<u8>, name: &[u8], number: u32) -> Result<(), Memory>
     ensures { OnOk result (out.new.items ≡ out.old.items ++ named name.now number) }
 {
-    push_pieces(out, &[Bytes(name), Bytes(b" "), Number(u64::from(number))])
+    push_pieces(out, &[Bytes(name), Bytes(b" "), Number(number)])
 }
 
 /// Adds an actor's name.
@@ -72,10 +71,7 @@ fn push_word_begin(out: &mut Vec<u8>, text: &Located, word: WordId) -> Result<()
     ensures { OnOk result (out.new.items ≡ out.old.items ++ (word_text text.now.program.regions word.0 ++ codes " (word " ++ decimal word.0 ++ codes "): ")) }
 {
     push_word(out, &text.program, word.0)?;
-    push_pieces(
-        out,
-        &[Bytes(b" (word "), Number(u64::from(word.0)), Bytes(b"): ")],
-    )
+    push_pieces(out, &[Bytes(b" (word "), Number(word.0), Bytes(b"): ")])
 }
 
 /// Adds what becomes of a word.
@@ -151,11 +147,7 @@ fn push_phase_label(out: &mut Vec<u8>, kind: EventKind, phase: PhaseId) -> Resul
 {
     push_pieces(
         out,
-        &[
-            Bytes(event_name(kind)),
-            Bytes(b" phase "),
-            Number(u64::from(phase.0)),
-        ],
+        &[Bytes(event_name(kind)), Bytes(b" phase "), Number(phase.0)],
     )
 }
 
@@ -211,15 +203,15 @@ fn push_events(
 ) -> Result<(), Memory>
     ensures { OnOk result (out.new.items ≡ out.old.items ++ (title_begin ++ events_text first (option_copied last.entry) events)) }
 {
-    let events = Number(u64::from(events));
+    let events = Number(events);
     match last {
         Some(last) => push_pieces(
             out,
             &[
                 Bytes(b"Message chart: events "),
-                Number(u64::from(first)),
+                Number(first),
                 Bytes(b" to "),
-                Number(u64::from(last.event)),
+                Number(last.event),
                 Bytes(b" of "),
                 events,
             ],
@@ -252,9 +244,9 @@ fn push_actors(out: &mut Vec<u8>, shape: Shape) -> Result<(), Memory>
         out,
         &[
             Bytes(b"Machine: cores "),
-            Number(u64::from(shape.cores)),
+            Number(shape.cores),
             Bytes(b", banks "),
-            Number(u64::from(shape.banks)),
+            Number(shape.banks),
         ],
     )
 }
@@ -267,11 +259,11 @@ fn push_caches(out: &mut Vec<u8>, shape: Shape, fuel: u32) -> Result<(), Memory>
         out,
         &[
             Bytes(b", sets "),
-            Number(u64::from(shape.sets)),
+            Number(shape.sets),
             Bytes(b", ways "),
-            Number(u64::from(shape.ways)),
+            Number(shape.ways),
             Bytes(b", fuel "),
-            Number(u64::from(fuel)),
+            Number(fuel),
         ],
     )
 }

@@ -10,7 +10,6 @@ mod labels;
 mod laws;
 mod marks;
 mod picture;
-mod pieces;
 mod places;
 mod rows;
 mod states;

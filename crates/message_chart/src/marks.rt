@@ -2,10 +2,9 @@
 ghost use Rattle.std.specs.Prelude.{◌≡◌, ◌≤◌, ◌++◌, OnOk};
 ghost use Rattle.message_chart.specs.Marks.{attribute, circle, class_begin, element, element_end, head_from_left, head_from_right, level, line_to, path_begin, path_end, rectangle, upright, words_begin, words_end, x_of, y_of};
 
-use crate::pieces::Piece::{Bytes, Number};
-use crate::pieces::push_pieces;
 use dn_base::Memory;
-use text_pieces::push;
+use text_pieces::Piece::{Bytes, Long};
+use text_pieces::{push, push_pieces};
 
 /// Where the columns begin.
 pub(crate) const TOP: u64 = 104;
@@ -47,7 +46,7 @@ pub(crate) fn push_attribute(out: &mut Vec<u8>, name: &[u8], number: u64) -> Res
             Bytes(b" "),
             Bytes(name),
             Bytes(b"='"),
-            Number(number),
+            Long(number),
             Bytes(b"'"),
         ],
     )
@@ -124,7 +123,7 @@ fn push_path_begin(out: &mut Vec<u8>, class: &[u8], from: Point) -> Result<(), M
     push_element(out, b"path", class)?;
     push_pieces(
         out,
-        &[Bytes(b" d='M"), Number(from.x), Bytes(b" "), Number(from.y)],
+        &[Bytes(b" d='M"), Long(from.x), Bytes(b" "), Long(from.y)],
     )
 }
 
@@ -139,7 +138,7 @@ pub(crate) fn push_upright(
     ensures { OnOk result (out.new.items ≡ out.old.items ++ upright class.now from.x from.y bottom) }
 {
     push_path_begin(out, class, from)?;
-    push_pieces(out, &[Bytes(b"V"), Number(bottom), Bytes(b"'/>\n")])
+    push_pieces(out, &[Bytes(b"V"), Long(bottom), Bytes(b"'/>\n")])
 }
 
 /// Adds a line across, from the left edge on.
@@ -148,7 +147,7 @@ pub(crate) fn push_level(out: &mut Vec<u8>, class: &[u8], y: u64, right: u64) ->
     ensures { OnOk result (out.new.items ≡ out.old.items ++ level class.now y right) }
 {
     push_path_begin(out, class, Point { x: 0, y })?;
-    push_pieces(out, &[Bytes(b"H"), Number(right), Bytes(b"'/>\n")])
+    push_pieces(out, &[Bytes(b"H"), Long(right), Bytes(b"'/>\n")])
 }
 
 /// Adds a line from one point to another.
@@ -166,9 +165,9 @@ pub(crate) fn push_line(
         out,
         &[
             Bytes(b"L"),
-            Number(to.x),
+            Long(to.x),
             Bytes(b" "),
-            Number(to.y),
+            Long(to.y),
             Bytes(b"'/>\n"),
         ],
     )
@@ -212,9 +211,9 @@ pub(crate) fn push_words_begin(out: &mut Vec<u8>, class: &[u8], at: Point) -> Re
             Bytes(b"<text class='denovo-text denovo-"),
             Bytes(class),
             Bytes(b"' x='"),
-            Number(at.x),
+            Long(at.x),
             Bytes(b"' y='"),
-            Number(at.y),
+            Long(at.y),
             Bytes(b"'>"),
         ],
     )

@@ -13,13 +13,12 @@ use crate::marks::{
     Point, TOP, push_circle, push_head_from_left, push_head_from_right, push_line,
     push_words_begin, push_words_end, y_of,
 };
-use crate::pieces::Piece::{Bytes, Number};
-use crate::pieces::push_pieces;
 use crate::states::WordChange;
 use dn_base::Memory;
 use message_net::{Actor, EventKind};
 use rv_core::End;
-use text_pieces::push;
+use text_pieces::Piece::{Bytes, Long, Number};
+use text_pieces::{push, push_pieces};
 use text_places::Located;
 
 /// Adds the point of an event of the chain.
@@ -31,10 +30,7 @@ fn push_point(out: &mut Vec<u8>, chart: &Chart, row: &ChartRow) -> Result<(), Me
         return Ok(());
     }
     let dot = chart.dot(row);
-    push_pieces(
-        out,
-        &[Number(dot.x), Bytes(b","), Number(dot.y), Bytes(b" ")],
-    )
+    push_pieces(out, &[Long(dot.x), Bytes(b","), Long(dot.y), Bytes(b" ")])
 }
 
 /// Adds the points of the chain's events.
@@ -170,11 +166,11 @@ fn push_number_begin(out: &mut Vec<u8>, row: &ChartRow) -> Result<(), Memory>
         out,
         &[
             Bytes(b"<text class='denovo-text denovo-number' x='"),
-            Number(8),
+            Long(8),
             Bytes(b"' y='"),
-            Number(y_of(row.line) + 4),
+            Long(y_of(row.line) + 4),
             Bytes(b"'>"),
-            Number(u64::from(row.event)),
+            Number(row.event),
             Bytes(b" "),
         ],
     )
@@ -307,9 +303,9 @@ fn push_change(out: &mut Vec<u8>, text: &Located, x: u64, change: WordChange) ->
         out,
         &[
             Bytes(b"<tspan x='"),
-            Number(x),
+            Long(x),
             Bytes(b"' dy='"),
-            Number(18),
+            Long(18),
             Bytes(b"'>"),
         ],
     )?;

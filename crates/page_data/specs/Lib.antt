@@ -1,4 +1,3 @@
-pub mod Pieces
 pub mod Json
 pub mod Rows
 pub mod Program

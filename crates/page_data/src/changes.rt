@@ -8,15 +8,14 @@ ghost use Rattle.page_data.specs.Rows.{actor_number, signature_text, cause_field
 use crate::json::{push_all, push_further};
 use crate::lists::{Item, push_named_list};
 use crate::mails::{actor_number, flag_number, push_signed_numbers};
-use crate::pieces::Piece::{Bytes, Long, Number};
-use crate::pieces::push_pieces;
 use dn_base::{CoreId, LockId, Memory, PhaseId, WordId};
 use registration_protocol::NodeWait;
 use registry_bank::BankWord;
 use run_changes::{ActorChanges, Change};
 use run_report::kind_name;
 use rv_core::{End, EndShown};
-use text_pieces::push;
+use text_pieces::Piece::{Bytes, Long, Number};
+use text_pieces::{push, push_pieces};
 use word_cache::Entry;
 use write_signature::Signature;
 

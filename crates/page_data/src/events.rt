@@ -11,14 +11,13 @@ ghost use Rattle.page_data.specs.Page.{changes_field, next_field, mails_field, s
 use crate::json::push_gap;
 use crate::lists::push_named_list;
 use crate::mails::{actor_number, push_handled, push_mail_items, push_sent};
-use crate::pieces::Piece::{Bytes, Long, Number};
-use crate::pieces::push_pieces;
 use dn_base::Memory;
 use dn_machine::Machine;
 use message_net::Event;
 use run_changes::{EventMade, changes_since, make};
 use std::alloc::Global;
-use text_pieces::push;
+use text_pieces::Piece::{Bytes, Long, Number};
+use text_pieces::{push, push_pieces};
 
 #[tactic(auto, unfolding(crate::specs::Page::changes_field))]
 fn push_since(alloc: Global, out: &mut Vec<u8>, machine: &Machine) -> Result<(), Memory>

@@ -6,13 +6,12 @@ use crate::changes::push_cause;
 use crate::json::{push_gap, push_named_string};
 use crate::lists::{Item, push_named_list};
 use crate::page::Page;
-use crate::pieces::Piece::{Bytes, Long, Number};
-use crate::pieces::push_pieces;
 use dn_base::Memory;
 use run_report::outcome_name;
 use run_timing::Link;
 use rv_core::TaskEnd;
-use text_pieces::push;
+use text_pieces::Piece::{Bytes, Long, Number};
+use text_pieces::{push, push_pieces};
 
 /// Adds how the data begin.
 #[tactic(auto, unfolding(crate::specs::Page::title_part))]

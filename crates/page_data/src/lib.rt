@@ -9,7 +9,6 @@ mod json;
 mod lists;
 mod mails;
 mod page;
-mod pieces;
 mod program;
 
 pub use page::{MOST_ROWS, Page, page_text};

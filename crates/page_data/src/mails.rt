@@ -5,11 +5,10 @@ ghost use Rattle.page_data.specs.Rows.{actor_number, flag_number, bit_text, bit_
 
 use crate::json::{push_all, push_gap};
 use crate::lists::{Item, push_named_list};
-use crate::pieces::Piece::{Bytes, Long, Number};
-use crate::pieces::push_pieces;
 use dn_base::Memory;
 use message_net::{Actor, Event, Mail, Message, Outgoing, Pool};
-use text_pieces::push;
+use text_pieces::Piece::{Bytes, Long, Number};
+use text_pieces::{push, push_pieces};
 use write_signature::Signature;
 
 /// The number of an actor: cores from 0 on, banks from 16 on, and the keeper.

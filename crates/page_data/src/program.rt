@@ -7,8 +7,6 @@ ghost use Rattle.page_data.specs.Program.{size_text, pair_text, value_texts, val
 
 use crate::json::{push_gap, push_named_string, push_string};
 use crate::lists::{Item, push_list, push_named_list};
-use crate::pieces::Piece::{Bytes, Long, Number};
-use crate::pieces::push_pieces;
 use dn_base::{Memory, Name};
 use dn_machine::Machine;
 use region_table::{
@@ -16,7 +14,8 @@ use region_table::{
 };
 use rv_listing::push_code_word;
 use std::alloc::Global;
-use text_pieces::push;
+use text_pieces::Piece::{Bytes, Long, Number};
+use text_pieces::{push, push_pieces};
 
 /// Adds how large the machine is, the fuel of a task, and how many data words there are.
 #[tactic(auto, unfolding(crate::specs::Program::size_text))]

@@ -4,5 +4,7 @@
 #![tactic(auto)]
 
 mod pieces;
+mod several;
 
 pub use pieces::{push, push_decimal, push_hexadecimal, push_long, push_signed, to_hexadecimal};
+pub use several::{Piece, push_pieces};

@@ -1,6 +1,6 @@
 use Rattle.std.proofs.Common.{◌≡◌, ◌++◌, drop}
-use Rattle.page_data.specs.Pieces.{pieces_text}
-use Rattle.page_data.proofs.pieces.push_pieces.Given as goal
+use Rattle.text_pieces.specs.Several.{pieces_text}
+use Rattle.text_pieces.proofs.several.push_pieces.Given as goal
 
 abbrev pub invariant-loop-piece : goal.invariant-loop-piece
 invariant-loop-piece l = l.out.items ++ pieces_text (drop l.piece-index l.pieces) ≡ l.fn.out.items ++ pieces_text l.pieces

@@ -1,8 +1,8 @@
--- The pieces that the data's text is made of.
+-- A text of several pieces, one after the other.
 use Rattle.std.specs.Prelude.{ℕ, List, flat_map}
 use Rattle.std.specs.Fmt.{decimal}
-use Rattle.page_data.specs.declared.pieces.Piece.{Piece}
-use Rattle.page_data.specs.declared.pieces.Piece.TheVariants as piece
+use Rattle.text_pieces.specs.declared.several.Piece.{Piece}
+use Rattle.text_pieces.specs.declared.several.Piece.TheVariants as piece
 
 abbrev pub piece_text : Piece → List ℕ
 piece_text (piece.Bytes bytes) = bytes.now

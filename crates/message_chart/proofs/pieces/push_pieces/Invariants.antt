@@ -1,6 +1,0 @@
-use Rattle.std.proofs.Common.{◌≡◌, ◌++◌, drop}
-use Rattle.message_chart.specs.Pieces.{pieces_text}
-use Rattle.message_chart.proofs.pieces.push_pieces.Given as goal
-
-abbrev pub invariant-loop-piece : goal.invariant-loop-piece
-invariant-loop-piece l = l.out.items ++ pieces_text (drop l.piece-index l.pieces) ≡ l.fn.out.items ++ pieces_text l.pieces
