@@ -17,12 +17,6 @@ pub item-step : {X : Type 0} (f : X → List ℕ) (first : Bool) (out : List ℕ
 item-step {X} f first out xs i x whole within is so_far =
     item-next f first out (drop i xs) x (drop (i + 1) xs) whole (drop_more xs i x within ∙ ap (λ (y : X). y ∷ drop (i + 1) xs) (sym is)) so_far
 
--- the same of items that are copied, of which the loop reads one from the list
-pub item-read : {X : Type 0} (f : X → List ℕ) (first : Bool) (out : List ℕ) (xs : List X) (i : ℕ) (d : X) (whole : List ℕ) → i < length xs
-    → out ++ item_texts f first (drop i xs) ≡ whole → ((out ++ gap first) ++ f (get_or xs i d)) ++ item_texts f false (drop (i + 1) xs) ≡ whole
-item-read f first out xs i d whole within so_far =
-    item-next f first out (drop i xs) (get_or xs i d) (drop (i + 1) xs) whole (drop_more xs i d within) so_far
-
 -- of texts that follow one another
 pub text-read : {X : Type 0} (f : X → List ℕ) (out : List ℕ) (xs : List X) (i : ℕ) (d : X) (whole : List ℕ) → i < length xs
     → out ++ flat_map f (drop i xs) ≡ whole → (out ++ f (get_or xs i d)) ++ flat_map f (drop (i + 1) xs) ≡ whole
