@@ -44,8 +44,14 @@ fn noted(log: &mut Log, round: Round) -> Result<Machine, Memory>
     ensures machine { IfOk result (λ m. m ≡ round.machine) }
     ensures noted { OnOk result (HasNotedRound round log.old log.new) }
 {
-    note_round(log, &round)?;
-    Ok(round.into_machine())
+    match note_round(log, &round) {
+        Ok(()) => Ok(round.into_machine()),
+        Err(memory) => {
+            // for the prover alone: one call drops the round, in place of the drops of all its parts
+            drop(round);
+            Err(memory)
+        }
+    }
 }
 
 /// Makes one more round, and notes it.
