@@ -247,38 +247,41 @@ def pages_are_those_of_the_reference():
         check(f"{view[0]}: a page on a closed standard output", ran.returncode == 7, ran.returncode)
 
 
-def states_are_those_of_the_reference():
-    """States of documents, before events of all kinds and at the end. The documents are runs, and what the replay refuses: runs without
+# The runs whose states are compared: an example and its words.
+STATE_RUNS = [("stale-copy", []), ("signature", ["--banks", "2"]), ("crossed-locks", ["--seed", "1"]), ("trap", []), ("touched-bit", []),
+              ("eviction-race", ["--sets", "1", "--ways", "1"]), ("guarded-words", ["--seed", "7", "--sets", "1", "--ways", "2"])]
+
+
+def states_are_those_of_the_reference(example, words):
+    """States of documents, before events of all kinds and at the end. The documents are a run, and what the replay refuses: runs without
     their last events, and with two neighbouring events in the other order or an event twice."""
-    denovo, statuses = programs("denovo")[0], set()
-    shapes = {"stale-copy": [[]], "signature": [["--banks", "2"]], "crossed-locks": [["--seed", "1"]], "trap": [[]], "touched-bit": [[]],
-              "eviction-race": [["--sets", "1", "--ways", "1"]], "guarded-words": [["--seed", "7", "--sets", "1", "--ways", "2"]]}
-    for example in shapes if kind == "proved" else list(shapes)[:3]:
-        for words in shapes[example]:
-            document = run(denovo + ["--mode", "trace"] + words, text_of(example)).stdout
-            head, count, lines = re.fullmatch(rb"(.*\nevents )(\d+)\n(.*)", document, re.S).groups()
-            events = lines.split(b"\n")[:-1]
-            last = len(events)
+    document, statuses = run(programs("denovo")[0] + ["--mode", "trace"] + words, text_of(example)).stdout, set()
+    head, count, lines = re.fullmatch(rb"(.*\nevents )(\d+)\n(.*)", document, re.S).groups()
+    events = lines.split(b"\n")[:-1]
+    last = len(events)
 
-            def told(rows):
-                return head + b"%d\n" % len(rows) + b"".join(row + b"\n" for row in rows)
+    def told(rows):
+        return head + b"%d\n" % len(rows) + b"".join(row + b"\n" for row in rows)
 
-            check(f"the events of {example} {' '.join(words)}", told(events) == document and last == int(count) and last > 12)
-            middle = last // 2
-            whole = [(document, number) for number in range(0, last + 2, max(1, last // 12))] + [(document, last), (document, last + 1)]
-            short = [(told(events[:middle]), number) for number in (0, middle, middle + 1)]
-            twice = [(told(events[:at + 1] + events[at:]), last + 1) for at in (0, middle, last - 1)]
-            other = [(told(events[:at] + [events[at + 1], events[at]] + events[at + 2:]), number) for at in range(2, last - 2, 5) for number in (at, last)]
-            for shown, number in whole + short + twice + other:
-                status, wanted = reference.state(shown, number)
-                statuses.add(status)
-                for view in programs("view")[:1]:
-                    ran = run(view + ["--mode", "state", "--event", str(number)], shown)
-                    check(f"{view[0]}: the state of {example} {' '.join(words)} before event {number}, status {status}",
-                          (ran.returncode, ran.stdout) == (status, written(wanted)), ran.returncode)
-    check("states that are asked for, and those before them", statuses == {0, 1, 3}, statuses)
+    check(f"the events of {example} {' '.join(words)}", told(events) == document and last == int(count) and last > 12)
+    middle = last // 2
+    whole = [(document, number) for number in range(0, last + 2, max(1, last // 12))] + [(document, last), (document, last + 1)]
+    short = [(told(events[:middle]), number) for number in (0, middle, middle + 1)]
+    twice = [(told(events[:at + 1] + events[at:]), last + 1) for at in (0, middle, last - 1)]
+    other = [(told(events[:at] + [events[at + 1], events[at]] + events[at + 2:]), number) for at in range(2, last - 2, 5) for number in (at, last)]
+    for shown, number in whole + short + twice + other:
+        status, wanted = reference.state(shown, number)
+        statuses.add(status)
+        for view in programs("view")[:1]:
+            ran = run(view + ["--mode", "state", "--event", str(number)], shown)
+            check(f"{view[0]}: the state of {example} {' '.join(words)} before event {number}, status {status}",
+                  (ran.returncode, ran.stdout) == (status, written(wanted)), ran.returncode)
+    check(f"the states of {example} that are asked for, and those before them", statuses == {0, 1, 3}, statuses)
+
+
+def a_run_without_an_event_has_one_state():
     for view in programs("view"):
-        document = run(denovo + ["--mode", "trace"], b".region m, 1\n").stdout
+        document = run(programs("denovo")[0] + ["--mode", "trace"], b".region m, 1\n").stdout
         ran = run(view + ["--mode", "state"], document)
         check(f"{view[0]}: the state of a run without an event", (ran.returncode, ran.stdout) == (0, written(reference.state(document, 0)[1])))
         for number in (1, 4294967295):
@@ -750,9 +753,9 @@ def the_page_on_accounts_has_the_numbers():
 
 
 # Each part runs in a process of its own, as many at once as there are processors: those that take longest begin first.
-PARTS = [
+PARTS = [functools.partial(states_are_those_of_the_reference, *it) for it in (STATE_RUNS if kind == "proved" else STATE_RUNS[:3])] + [
     pages_are_those_of_the_reference,
-    states_are_those_of_the_reference,
+    a_run_without_an_event_has_one_state,
     accounts_are_those_of_the_reference,
     claims_of_runs_agree,
     claims_are_judged,
@@ -788,7 +791,8 @@ def counted(part):
     begun = time.monotonic()
     part()
     sys.stdout.flush()
-    return part.__name__, passed, failed, time.monotonic() - begun
+    name = part.func.__name__ + " " + part.args[0] if isinstance(part, functools.partial) else part.__name__
+    return name, passed, failed, time.monotonic() - begun
 
 
 with multiprocessing.get_context("fork").Pool() as pool:
