@@ -1,6 +1,7 @@
-use dn_base::{BankId, CoreId, LockId, PhaseId, WordId};
+use dn_base::{BankId, CoreId, LockId, Memory, PhaseId, WordId};
 use message_net::{Message, Outgoing};
 use registry_bank::{Bank, BankWord};
+use std::alloc::Global;
 use std::test::Fail;
 use write_signature::Signature;
 
@@ -71,15 +72,26 @@ fn first_wrong(bank: &mut Bank, talk: &[Line]) -> Option<usize> {
     None
 }
 
+/// The first wrong line of the talk of a word, and then that word and the word behind the memory.
+fn talked_of_a_word(alloc: Global) -> Result<(Option<usize>, [Option<BankWord>; 2]), Memory> {
+    let mut bank = Bank::new(alloc, BankId(0), 1, 3, &[3, 3], 0)?;
+    let wrong = first_wrong(&mut bank, &talk_of_a_word());
+    Ok((wrong, [bank.word(FIRST), bank.word(BEHIND)]))
+}
+
+/// The first wrong line of the talk of a lock with the second of two banks, and then the bank's number and its only word.
+fn talked_of_a_lock(alloc: Global) -> Result<(Option<usize>, BankId, Option<BankWord>), Memory> {
+    let mut bank = Bank::new(alloc, BankId(1), 2, 2, &[0, 7], 2)?;
+    let wrong = first_wrong(&mut bank, &talk_of_a_lock());
+    Ok((wrong, bank.number(), bank.word(WordId(1))))
+}
+
 #[test]
 fn a_bank_answers_each_message(rt: HostRuntime) -> Result<(), Fail> {
-    let mut bank = Bank::new(rt.alloc(), BankId(0), 1, 3, &[3, 3], 0)?;
-    assert_eq!(rt; first_wrong(&mut bank, &talk_of_a_word()), None);
-    assert_eq!(rt; bank.word(FIRST), Some(BankWord::Reg(CoreId(0))));
-    assert_eq!(rt; bank.word(BEHIND), None);
-    let mut second = Bank::new(rt.alloc(), BankId(1), 2, 2, &[0, 7], 2)?;
-    assert_eq!(rt; first_wrong(&mut second, &talk_of_a_lock()), None);
-    assert_eq!(rt; second.number(), BankId(1));
-    assert_eq!(rt; second.word(WordId(1)), Some(BankWord::Home(7)));
+    let alloc = rt.alloc();
+    let words = [Some(BankWord::Reg(CoreId(0))), None];
+    assert_eq!(rt; talked_of_a_word(alloc)?, (None, words));
+    let word = Some(BankWord::Home(7));
+    assert_eq!(rt; talked_of_a_lock(alloc)?, (None, BankId(1), word));
     Ok(())
 }

@@ -128,19 +128,52 @@ fn last_use(places: &[Place], word: u32) -> Option<u64> {
     None
 }
 
+/// The word that gives way to word 9 after these acts in one set, and whether there is room for word 9.
+fn seen(alloc: Global, acts: &[(u32, Act)], calls: Calls) -> Result<(Option<u32>, bool), Memory> {
+    let cache = after(alloc, 1, acts, calls)?;
+    Ok((victim(&cache, 9), cache.room(WordId(9))))
+}
+
+/// The first number of acts in the one set after which something else is seen.
+fn first_wrong(alloc: Global, calls: Calls) -> Result<Option<usize>, Memory> {
+    for (acts, gone, room) in [
+        (2, Some(5), false),
+        (3, Some(7), false),
+        (4, Some(5), false),
+        (5, None, true),
+    ] {
+        if seen(alloc, &ONE_SET[..acts], calls)? != (gone, room) {
+            return Ok(Some(acts));
+        }
+    }
+    Ok(None)
+}
+
+/// What is seen of the two sets after all acts: the words that give way in each of them, how many places the first has, and
+/// when words 6 and 4 were used there.
+#[derive(Clone, Copy)]
+struct Sets {
+    gone: (Option<u32>, Option<u32>),
+    places: usize,
+    six: Option<u64>,
+    four: Option<u64>,
+}
+
+fn both_sets(alloc: Global, calls: Calls) -> Result<Sets, Memory> {
+    let cache = after(alloc, 2, &TWO_SETS, calls)?;
+    let places = cache.places(0);
+    Ok(Sets {
+        gone: (victim(&cache, 8), victim(&cache, 7)),
+        places: places.len(),
+        six: last_use(places, 6),
+        four: last_use(places, 4),
+    })
+}
+
 #[test]
 fn the_least_recently_used_gives_way(rt: HostRuntime) -> Result<(), Fail> {
     for calls in [Calls::ByWord, Calls::Probed, Calls::Misled] {
-        for (acts, gone, room) in [
-            (2, Some(5), false),
-            (3, Some(7), false),
-            (4, Some(5), false),
-            (5, None, true),
-        ] {
-            let cache = after(rt.alloc(), 1, &ONE_SET[..acts], calls)?;
-            assert_eq!(rt; victim(&cache, 9), gone);
-            assert_eq!(rt; cache.room(WordId(9)), room);
-        }
+        assert_eq!(rt; first_wrong(rt.alloc(), calls)?, None);
     }
     Ok(())
 }
@@ -148,12 +181,9 @@ fn the_least_recently_used_gives_way(rt: HostRuntime) -> Result<(), Fail> {
 #[test]
 fn each_set_has_its_own_order(rt: HostRuntime) -> Result<(), Fail> {
     for calls in [Calls::ByWord, Calls::Probed, Calls::Misled] {
-        let cache = after(rt.alloc(), 2, &TWO_SETS, calls)?;
-        assert_eq!(rt; (victim(&cache, 8), victim(&cache, 7)), (Some(6), Some(5)));
-        let places = cache.places(0);
-        assert_eq!(rt; places.len(), 2);
-        assert!(rt; last_use(places, 6).is_some());
-        assert!(rt; last_use(places, 6) < last_use(places, 4));
+        let sets = both_sets(rt.alloc(), calls)?;
+        assert_eq!(rt; (sets.gone, sets.places), ((Some(6), Some(5)), 2));
+        assert!(rt; sets.six.is_some() && sets.six < sets.four);
     }
     Ok(())
 }

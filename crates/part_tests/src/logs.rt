@@ -51,14 +51,20 @@ fn are_by(entries: &[Stamped], wanted: &[(u64, Actor)]) -> bool {
         && pairs.all(|(entry, (stamp, actor))| entry.stamp == *stamp && entry.actor == *actor)
 }
 
+/// The grants of the entries, and how many the first of them has.
+fn granted(alloc: Global, entries: &[Stamped]) -> Result<(Vec<Grant>, usize), Memory> {
+    let first = entries.get(..1).unwrap_or(entries);
+    Ok((grants(alloc, entries)?, grants(alloc, first)?.len()))
+}
+
 #[test]
 fn entries_stand_by_stamp_and_then_by_actor(rt: HostRuntime) -> Result<(), Fail> {
     let alloc = rt.alloc();
     let merged = merged(alloc)?;
     let order = [(1, FIRST), (2, SECOND), (2, BANK), (4, FIRST), (4, SECOND)];
     assert!(rt; are_by(merged.as_slice(), &order));
-    assert!(rt; grants(alloc, merged.as_slice())?.as_slice() == [GRANT].as_slice());
-    assert!(rt; grants(alloc, &merged[..1])?.is_empty());
+    let (all, of_first) = granted(alloc, merged.as_slice())?;
+    assert!(rt; all.as_slice() == [GRANT].as_slice() && of_first == 0);
     assert_eq!(rt; Counts::of(merged.as_slice()).kinds[0], 5);
     Ok(())
 }

@@ -38,14 +38,19 @@ fn joins() -> bool {
     one.join(&two) == written(&[1, 2]) && Signature::empty(PhaseId(2)).join(&one) == one
 }
 
+/// Whether the signature of writes in phase 3 holds none of them in phase 4, and is empty there.
+fn is_new_in_the_next_phase() -> bool {
+    let (signature, next) = (written(&[1]), PhaseId(4));
+    signature.phase() == PhaseId(3)
+        && !signature.may_hold(WordId(1), next)
+        && signature.in_phase(next) == Signature::empty(next)
+}
+
 #[test]
 fn a_word_has_two_bits_in_its_phase(rt: HostRuntime) -> Result<(), Fail> {
     assert_eq!(rt; first_wrong(), None);
     assert!(rt; is_held(1, &[1]) && !is_held(257, &[1]));
-    let signature = written(&[1]);
-    assert_eq!(rt; signature.phase(), PhaseId(3));
-    assert!(rt; !signature.may_hold(WordId(1), PhaseId(4)));
-    assert!(rt; signature.in_phase(PhaseId(4)) == Signature::empty(PhaseId(4)));
+    assert!(rt; is_new_in_the_next_phase());
     assert!(rt; joins());
     Ok(())
 }
