@@ -2,7 +2,7 @@
 ghost use Rattle.std.specs.Prelude.{◌≡◌, ◌≤◌, ◌^◌, [], length, IfOk};
 ghost use Rattle.bank_hall.specs.Halls.{HasActor};
 
-use bank_hall::{BankActor, Hall, HallParts, Handled, KeeperActor, Pass, Port};
+use bank_hall::{BankActor, Hall, HallEnd, HallParts, Handled, KeeperActor, Pass, Port};
 use dn_base::{BankId, CoreId, Gate, Memory};
 use message_net::Actor;
 use phase_barrier::{Keeper, Verdict};
@@ -217,12 +217,22 @@ impl OneHall {
         Ok(None)
     }
 
+    fn close(self, alloc: Global) -> Result<HallEnd, Memory> {
+        let OneHall { hall, pass } = self;
+        let passes = vec![in alloc; pass]?;
+        hall.close(alloc, passes)
+    }
+
     /// Closes the hall. How many calls there were of the bank, of the port and of the keeper.
     pub(crate) fn calls(self, alloc: Global) -> Result<(usize, usize, usize), Memory> {
-        let OneHall { hall, pass } = self;
-        let end = hall.close(alloc, vec![in alloc; pass]?)?;
-        let banks = end.banks.first().map_or(0, |history| history.len());
-        let ports = end.ports.first().map_or(0, |history| history.len());
-        Ok((banks, ports, end.keeper.len()))
+        let end = self.close(alloc)?;
+        Ok(calls_in(&end))
     }
+}
+
+/// How many calls there were of the bank, of the port and of the keeper.
+fn calls_in(end: &HallEnd) -> (usize, usize, usize) {
+    let banks = end.banks.first().map_or(0, |history| history.len());
+    let ports = end.ports.first().map_or(0, |history| history.len());
+    (banks, ports, end.keeper.len())
 }

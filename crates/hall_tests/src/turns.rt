@@ -6,7 +6,6 @@ use dn_base::Memory;
 use std::alloc::Global;
 use std::sync::atomic::{AtomicU64, Ordering};
 use std::sync::{Arc, Wait};
-use std::test::Fail;
 use std::thread::{Threads, join};
 use turn_lock::{Entry, Object, Turn, TurnPass};
 
@@ -72,8 +71,11 @@ fn start(alloc: Global, steps: &Arc<AtomicU64, Global>, refused: u32) -> Result<
     }
 }
 
-/// The calls of a history, each with its pass, its input and its answer.
-type Calls = Vec<(u32, u32, u64)>;
+/// A call: its pass, its input and its answer.
+type Call = (u32, u32, u64);
+
+/// The calls of a history.
+type Calls = Vec<Call>;
 
 fn calls_in(alloc: Global, history: &[Entry<Total>]) -> Result<Calls, Memory> {
     let mut calls = Vec::new(alloc);
@@ -119,30 +121,55 @@ fn call<R: Wait>(
     (answer, seen)
 }
 
+/// What four calls are answered, the second of which is made with the second pass.
+fn four_calls<R: Wait>(
+    rt: &R,
+    turn: &Turn<Total>,
+    zero: &mut TurnPass<Total>,
+    one: &mut TurnPass<Total>,
+    steps: &AtomicU64,
+) -> [Answered; 4]
+    requires { IsPassOf turn.now zero.old × IsPassOf turn.now one.old }
+    ensures { IsPassOf turn.now zero.new × IsPassOf turn.now one.new }
+{
+    [
+        call(rt, turn, zero, 2, steps),
+        call(rt, turn, one, 5, steps),
+        call(rt, turn, zero, 3, steps),
+        call(rt, turn, zero, 3, steps),
+    ]
+}
+
+/// What the four calls are answered, how long a history each pass has seen then, the total, and the calls in the history.
+type FourCalls = ([Answered; 4], (u64, u64), u64, Calls);
+
+fn shared_by_two<R: Wait>(
+    rt: &R,
+    alloc: Global,
+    steps: &Arc<AtomicU64, Global>,
+) -> Result<FourCalls, Memory> {
+    let (turn, mut zero, mut one) = start(alloc, steps, 3)?;
+    let answers = four_calls(rt, &turn, &mut zero, &mut one, steps);
+    let seen = (zero.seen(), one.seen());
+    let (sum, calls) = close(alloc, turn, zero, one)?;
+    Ok((answers, seen, sum, calls))
+}
+
 // What is handed in is called before the object's step, so it sees the steps of the calls before. That it is called once the
 // object is in hand, and so within the turn, the refused call shows: it doesn't come there.
 #[test]
-fn calls_of_two_passes_stand_in_one_history(rt: HostRuntime) -> Result<(), Fail> {
+fn calls_of_two_passes_stand_in_one_history(rt: HostRuntime) -> Result<(), Memory> {
     let alloc = rt.alloc();
     let steps = Arc::new(alloc, AtomicU64::new(0))?;
-    let (turn, mut zero, mut one) = start(alloc, &steps, 3)?;
-    let answers = [
-        call(&rt, &turn, &mut zero, 2, &steps),
-        call(&rt, &turn, &mut one, 5, &steps),
-        call(&rt, &turn, &mut zero, 3, &steps),
-        call(&rt, &turn, &mut zero, 3, &steps),
-    ];
-    let refused = (Err((Memory, 3)), None);
+    let (answers, seen, sum, calls) = shared_by_two(&rt, alloc, &steps)?;
     let wanted = [
         (Ok(2), Some(0)),
         (Ok(7), Some(1)),
-        refused,
+        (Err((Memory, 3)), None),
         (Ok(10), Some(2)),
     ];
     assert!(rt; answers == wanted);
-    assert_eq!(rt; (zero.seen(), one.seen()), (3, 2));
-    let (sum, calls) = close(alloc, turn, zero, one)?;
-    assert_eq!(rt; sum, 10);
+    assert_eq!(rt; (seen, sum), ((3, 2), 10));
     assert!(rt; calls.as_slice() == [(0, 2, 2), (1, 5, 7), (0, 3, 10)].as_slice());
     Ok(())
 }
@@ -201,6 +228,11 @@ fn call_in_two<R: Threads + Wait + Sync>(
 /// The total after this many calls of each of two threads, and how many calls the history has of each pass.
 type Totals = (u64, usize, usize);
 
+/// How many calls there are of the pass with this number.
+fn calls_of(calls: &[Call], pass: u32) -> usize {
+    calls.iter().filter(|call| call.0 == pass).count()
+}
+
 fn totals_once<R: Threads + Wait + Sync>(
     rt: &R,
     alloc: Global,
@@ -212,9 +244,8 @@ fn totals_once<R: Threads + Wait + Sync>(
         return Err(Memory);
     };
     let (sum, calls) = close(alloc, turn, zero, one)?;
-    let of_zero = calls.iter().filter(|call| call.0 == 0).count();
-    let of_one = calls.iter().filter(|call| call.0 == 1).count();
-    Ok((sum, of_zero, of_one))
+    let calls = calls.as_slice();
+    Ok((sum, calls_of(calls, 0), calls_of(calls, 1)))
 }
 
 /// The same. A turn that found no memory to start is started once more.
@@ -228,9 +259,10 @@ fn totals<R: Threads + Wait + Sync>(rt: &R, alloc: Global, each: u32) -> Result<
 // A history has room for 4,096 calls from the start, so that of the second pair of threads grows. Where there is no memory for
 // that the call is refused, leaves no trace, and is made once more.
 #[test]
-fn two_threads_call_with_a_pass_each(rt: HostRuntime) -> Result<(), Fail> {
+fn two_threads_call_with_a_pass_each(rt: HostRuntime) -> Result<(), Memory> {
     let alloc = rt.alloc();
-    assert_eq!(rt; totals(&rt, alloc, 100)?, (200, 100, 100));
-    assert_eq!(rt; totals(&rt, alloc, 2_100)?, (4_200, 2_100, 2_100));
+    for (each, wanted) in [(100, (200, 100, 100)), (2_100, (4_200, 2_100, 2_100))] {
+        assert_eq!(rt; totals(&rt, alloc, each)?, wanted);
+    }
     Ok(())
 }
