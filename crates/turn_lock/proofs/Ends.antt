@@ -60,6 +60,12 @@ module _ {O I U C : Type 0} (content : O → C) (answer : C → I → U) (next :
         named = subst (All (λ d. d.pass < passes)) here e.named;
       }
 
+module _ {O I U C : Type 0} (content : O → C) (answer : C → I → U) (next : C → I → C) where
+  -- the same by other names for the first object and the number of passes
+  pub hands_over : (x x' : O) (passes passes' : ℕ) (v : View O (Entry O I U)) (slot : Option (Desk O I U)) (desk : Desk O I U) → x ≡ x' → passes ≡ passes' → Ended content answer next x passes v slot → slot ≡ Some desk → Handed content answer next x' passes' v desk
+  hands_over x x' passes passes' v slot desk same same' e is =
+      subst (λ o. Handed content answer next o passes' v desk) same (subst (λ n. Handed content answer next x n v desk) same' (hands content answer next x passes v slot desk e is))
+
 module _ {S O I U : Type 0} where
   pub gathers_first : (passes left : List (Token O I U)) (p : Token O I U) (n : ℕ) (y : Option O) (me : Me S (View O (Entry O I U))) → passes ≡ left ++ p ∷ [] → me ≡ (resting y (claim p.number p.seen p.made) n, []) → Gathers passes left me
   gathers_first passes left p n y me split is = subst (Gathers passes left) (sym is) (record {

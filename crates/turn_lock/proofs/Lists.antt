@@ -1,5 +1,5 @@
 -- Lists: sums of the weights of seats, calls of one pass, beginnings.
-use Rattle.std.proofs.Common.{◌≡◌, ℕ, zero, suc, ◌+◌, ◌<◌, ◌≤◌, ◌≢◌, ◌⊎◌, cond, eqb, eq-eqb, ne_eqb, List, [], ◌∷◌, ◌++◌, length, get_or, set, sum_by, filter, sym, refl, ap, subst, ◌∙◌, inl, inr, ⊎_elim, arith, append_assoc, append-nil}
+use Rattle.std.proofs.Common.{◌≡◌, ℕ, zero, suc, ◌+◌, ◌<◌, ◌≤◌, ◌≢◌, ◌⊎◌, Bool, false, cond, eqb, eq-eqb, ne_eqb, List, [], ◌∷◌, ◌++◌, length, get_or, set, sum_by, filter, sym, refl, ap, subst, ◌∙◌, inl, inr, ⊎_elim, arith, append_assoc, append-nil}
 use Rattle.std.specs.List.{All, Any}
 use Rattle.std.proofs.lemmas.List.Sums.{sum_by-cons}
 use Rattle.std.proofs.lemmas.List.Elements.{filter-append, All-head, All-tail}
@@ -7,6 +7,12 @@ use mathlib.Core.Option.{some, some-injective, some-ne-none}
 use Rattle.atomic_table.proofs.Lists.{at_set}
 use lib.ListN.{get_elem?}
 use Rattle.turn_lock.specs.History.{BeginsWith}
+
+-- a row of one place has no value left once that one is taken
+pub one_taken : (l : List Bool) (k n : ℕ) → n ≡ 1 → k < n → get_or (set l 0 false) k false ≡ false
+one_taken [] k n one few = refl
+one_taken (b ∷ bs) zero n one few = refl
+one_taken (b ∷ bs) (suc k) n one few = absurd (omega arith)
 
 module _ {A : Type 0} where
   pub at_less : (l : List A) (i : ℕ) (a : A) → get_elem? l i ≡ some a → i < length l

@@ -14,7 +14,7 @@ use Rattle.turn_lock.specs.declared.view.View.{View}
 use Rattle.turn_lock.specs.History.{BeginsWith}
 use Rattle.turn_lock.specs.Standing.{claim, standing, dealer, dealt, newcomer, gathered, spent}
 use Rattle.turn_lock.specs.Turns.{Turns, Kept}
-use Rattle.turn_lock.specs.Steps.{drew, looked, left, passed}
+use Rattle.turn_lock.specs.Steps.{HasTurn, drew, looked, left, passed}
 use Rattle.turn_lock.specs.Calling.{IsIdle, WaitsForTurn}
 use Rattle.turn_lock.proofs.Keeps.{draws, enters, leaves, splits, joins, begins}
 
@@ -127,3 +127,28 @@ module _ {S X E : Type 0} (by : E → ℕ) (Good : X → List E → S → Type 0
       (λ l. Kept by Good x passes (opening (0 ∷ 0 ∷ []) l (dealer x 1 (passes - 1))))
       (sym one)
       (record { words = refl; turns = begins by Good x passes y some_pass few good })
+
+module _ {S X E : Type 0} (by : E → ℕ) (Good : X → List E → S → Type 0) (t : ℕ) where
+  -- a seat that had not changed before its turn came has the turn as it was
+  pub unchanged : (old now after : Me S (View X E)) → now ≡ old → HasTurn by Good now.0 t after → HasTurn by Good old.0 t after
+  unchanged old now after same turn = subst (λ m. HasTurn by Good m.0 t after) same turn
+
+  -- so does one that had only drawn its ticket
+  pub drawn : (number : ℕ) (old now after : Me S (View X E)) → now ≡ (record old.0 { stage = Waiting number }, []) → HasTurn by Good now.0 t after → HasTurn by Good old.0 t after
+  drawn number old now after is turn =
+      let h = unchanged (record old.0 { stage = Waiting number }, []) now after is turn in record {
+        opening = h.opening;
+        log = h.log;
+        value = h.value;
+        from = h.from;
+        me_is = h.me_is;
+        good = h.good;
+        seen = h.seen;
+        mine = h.mine;
+      }
+
+module _ {S X E : Type 0} where
+  -- a seat that has drawn a ticket waits for its turn
+  pub waits : (x : X) (number : ℕ) (old now : Me S (View X E)) → IsIdle x old → now ≡ (record old.0 { stage = Waiting number }, []) → WaitsForTurn x number now
+  waits x number old now idle is =
+      is ∙ (ap (λ (m : Me S (View X E)). (record m.0 { stage = Waiting number }, [])) idle ∙ ap (λ (m : Me S (View X E)). (standing x m.0.own m.0.next (Waiting number), [])) (sym is))

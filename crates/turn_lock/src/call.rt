@@ -164,7 +164,7 @@ impl<O: Object> Turn<O> {
         }
     }
 
-    // Waits outside the line, within bounds, then draws a ticket, and looks until its turn has come.
+    // Waits outside the line, within bounds, then draws a ticket, and stands in the line until its turn has come.
     fn wait<R: Wait>(&self, rt: &R, seat: &mut Chair<O>)
         requires { (seat.old.table_id ≡ self.now.table) × IsIdle self.now.opening seat.old.me }
         ensures same { IsSameSeat seat.old seat.new }
@@ -174,6 +174,15 @@ impl<O: Object> Turn<O> {
             self.sleep_outside(rt);
         }
         let ticket = self.draw(seat);
+        self.stand(rt, seat, ticket);
+    }
+
+    // Looks until the turn has come.
+    fn stand<R: Wait>(&self, rt: &R, seat: &mut Chair<O>, ticket: u64)
+        requires { (seat.old.table_id ≡ self.now.table) × WaitsForTurn self.now.opening ticket seat.old.me }
+        ensures same { IsSameSeat seat.old seat.new }
+        ensures turn { HasTurn maker (Lies O.content O.answer O.next) seat.old.me.0 ticket seat.new.me }
+    {
         let mut passed = ticket;
         let mut looks = 0_u32;
         for _ in rt.forever() {

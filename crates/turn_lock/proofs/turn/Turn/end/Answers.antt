@@ -1,10 +1,22 @@
-use Rattle.std.proofs.Common.{sym, ap, ◌∙◌, ◌<◌, subst}
-use Rattle.std.specs.List.{All}
-use Rattle.turn_lock.specs.declared.entry.Entry.{Entry}
-use Rattle.turn_lock.specs.History.{Legal}
+use Rattle.std.proofs.Common.{◌≡◌, ◌<◌, false, get_or, sym, ap, ◌∙◌, subst, arith}
+use Rattle.std.specs.Slots.{slots_len}
 use Rattle.turn_lock.specs.Passes.{Sharing}
-use Rattle.turn_lock.proofs.Ends.{ends, never_empty, hands}
+use Rattle.turn_lock.proofs.Ends.{ends, never_empty, hands_over}
+use Rattle.turn_lock.proofs.Lists.{one_taken}
 use Rattle.turn_lock.proofs.turn.Turn.end.Goals as goal
+
+pub close_with-closed-requires : goal.close_with-closed-requires
+close_with-closed-requires g c = c.requires.0 ∙ sym (ap (λ (t : Sharing g.row.O.Denot). t.table) c.self.view_is)
+
+pub take-slot-requires : goal.take-slot-requires
+take-slot-requires g c =
+    let one : 0 < slots_len c.close_with-closed.result.slots = omega (arith, c.close_with-closed.ensures.counts.1, c.self.invariant.1) in
+    (one, c.close_with-closed.ensures.values.1 0 (omega arith) one)
+
+pub free-requires : goal.free-requires
+free-requires g c = λ k few.
+    subst (λ l. get_or l k false ≡ false) (sym c.take-slot.ensures.others.1)
+    (one_taken _ k _ (c.take-slot.ensures.others.2 ∙ (c.close_with-closed.ensures.counts.1 ∙ c.self.invariant.1)) few)
 
 pub unreachable-requires : goal.unreachable-requires
 unreachable-requires g c =
@@ -12,30 +24,14 @@ unreachable-requires g c =
     let ended = ends g.O.Object.content g.O.Object.answer g.O.Object.next _ _ _ _ _ _ c.take-slot.result c.close_with-closed.ensures.values.2 c.requires.1 (c.requires.2 ∙ sym passes) c.take-slot.ensures.value in
     never_empty _ _ _ _ _ _ _ ended c.in-None.is
 
-pub returns-clause-legal : goal.returns-clause-legal
-returns-clause-legal g c =
+pub returns : goal.returns
+returns g c =
     let passes = ap (λ (t : Sharing g.row.O.Denot). t.passes) c.self.view_is in
     let key = ap (λ (t : Sharing g.row.O.Denot). t.opening) c.self.view_is in
     let ended = ends g.O.Object.content g.O.Object.answer g.O.Object.next _ _ _ _ _ _ c.take-slot.result c.close_with-closed.ensures.values.2 c.requires.1 (c.requires.2 ∙ sym passes) c.take-slot.ensures.value in
-    let handed = hands _ _ _ _ _ _ _ c.in-Some.desk ended c.in-Some.is in
-    subst (λ o. Legal g.O.Object.answer g.O.Object.next (g.O.Object.content o) c.in-Some.desk.history.items (g.O.Object.content c.in-Some.desk.object)) key handed.legal
-
-pub returns-clause-told : goal.returns-clause-told
-returns-clause-told g c =
-    let passes = ap (λ (t : Sharing g.row.O.Denot). t.passes) c.self.view_is in
-    let ended = ends g.O.Object.content g.O.Object.answer g.O.Object.next _ _ _ _ _ _ c.take-slot.result c.close_with-closed.ensures.values.2 c.requires.1 (c.requires.2 ∙ sym passes) c.take-slot.ensures.value in
-    let handed = hands _ _ _ _ _ _ _ c.in-Some.desk ended c.in-Some.is in
-    (handed.own, handed.joined)
-
-pub returns-clause-longest : goal.returns-clause-longest
-returns-clause-longest g c =
-    let passes = ap (λ (t : Sharing g.row.O.Denot). t.passes) c.self.view_is in
-    let ended = ends g.O.Object.content g.O.Object.answer g.O.Object.next _ _ _ _ _ _ c.take-slot.result c.close_with-closed.ensures.values.2 c.requires.1 (c.requires.2 ∙ sym passes) c.take-slot.ensures.value in
-    let handed = hands _ _ _ _ _ _ _ c.in-Some.desk ended c.in-Some.is in handed.longest
-
-pub returns-clause-named : goal.returns-clause-named
-returns-clause-named g c =
-    let passes = ap (λ (t : Sharing g.row.O.Denot). t.passes) c.self.view_is in
-    let ended = ends g.O.Object.content g.O.Object.answer g.O.Object.next _ _ _ _ _ _ c.take-slot.result c.close_with-closed.ensures.values.2 c.requires.1 (c.requires.2 ∙ sym passes) c.take-slot.ensures.value in
-    let handed = hands _ _ _ _ _ _ _ c.in-Some.desk ended c.in-Some.is in
-    subst (λ n. All (λ (e : Entry g.row.O.Denot g.row.O-In.Denot g.row.O-Out.Denot). e.pass < n) c.in-Some.desk.history.items) passes handed.named
+    let handed = hands_over _ _ _ _ c.args.self.opening _ c.args.self.passes _ _ c.in-Some.desk key passes ended c.in-Some.is in record {
+      legal = handed.legal;
+      told = (handed.own, handed.joined);
+      longest = handed.longest;
+      named = handed.named;
+    }

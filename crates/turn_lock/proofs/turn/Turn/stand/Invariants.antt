@@ -1,12 +1,11 @@
-use Rattle.std.proofs.Common.{◌≡◌, []}
-use Rattle.turn_lock.specs.declared.view.Stage.TheVariants.{Waiting}
+use Rattle.std.proofs.Common.{◌≡◌}
 use Rattle.turn_lock.specs.Calling.{IsSameSeat}
-use Rattle.turn_lock.proofs.turn.Turn.wait.Given as goal
+use Rattle.turn_lock.proofs.turn.Turn.stand.Given as goal
 
 abbrev pub invariant-loop : goal.invariant-loop
 invariant-loop g l = record {
   can : (goal.iterator-loop g).can_next l.iterator';
   ends : (goal.iterator-loop g).is_finite l.iterator';
   same : IsSameSeat l.fn.seat l.seat;
-  me : l.seat.me ≡ (record l.fn.seat.me.0 { stage = Waiting l.ticket }, []);
+  me : l.seat.me ≡ l.fn.seat.me;
 }
