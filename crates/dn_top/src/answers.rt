@@ -1,6 +1,8 @@
-ghost use Rattle.std.specs.Prelude.{◌≡◌, ◌≢◌, ◌≤◌, IfOk, IfErr};
+ghost use Rattle.std.specs.Prelude.{◌≡◌, ◌≢◌, ◌≤◌, ◌++◌, length, IfOk, IfErr};
 ghost use Rattle.region_table.specs.Program.{names_of};
 ghost use Rattle.rv_assembler.specs.Names.{AreDeclaredNames};
+ghost use Rattle.run_report.specs.Answer.{answer_of};
+ghost use Rattle.run_report.specs.Grants.{grant_lines};
 ghost use Rattle.run_report.specs.Summary.{checked_of as counts_of};
 ghost use Rattle.command_words.specs.Command.{OptionsInRange};
 ghost use Rattle.dn_top.specs.Runs.{with_one_worker, reported, summed_up, IsPrintedRun, IsTimedRun};
@@ -16,7 +18,7 @@ use command_words::{Mode, Options};
 use dn_base::{Gate, Memory, Outcome, Status};
 use effect_checker::Checked;
 use effect_prover::{prove, prove_text};
-use flat_machine::least_run;
+use flat_machine::{LeastRun, least_run};
 use front_end::{Stop, checked_of, program_of};
 use region_table::Program;
 use run_report::{answer_text, checked_line, grant_text};
@@ -24,6 +26,17 @@ use rv_listing::listing;
 use std::alloc::Global;
 use std::sync::Wait;
 use std::thread::Threads;
+
+/// The answer of a run on one flat memory, and then its grants.
+fn flat_text(alloc: Global, run: &LeastRun) -> Result<Vec<u8>, Memory>
+    requires words { length run.now.end.ending.memory ≤ 65536 }
+    requires tasks { length run.now.end.ending.tasks ≤ 64 }
+    ensures { IfOk result (λ text. text.items ≡ answer_of run.now.end.ending ++ grant_lines run.now.grants.items) }
+{
+    let mut text = answer_text(alloc, &run.end.ending)?;
+    text.extend_from_slice(grant_text(alloc, run.grants.as_slice())?.as_slice())?;
+    Ok(text)
+}
 
 /// Runs a program on one flat memory, and prints its answer and the grants.
 #[tactic(auto, using(crate::proofs::Causes::caused))]
@@ -33,8 +46,7 @@ fn run_flat(alloc: Global, fuel: u32, checked: &Checked) -> Result<Output, Memor
     ensures { IfOk result (IsFlatRun checked.now fuel) }
 {
     let run = least_run(alloc, checked, fuel)?;
-    let mut text = answer_text(alloc, &run.end.ending)?;
-    text.extend_from_slice(grant_text(alloc, run.grants.as_slice())?.as_slice())?;
+    let text = flat_text(alloc, &run)?;
     Ok(ended(run.end.ending.outcome, text))
 }
 
@@ -67,7 +79,10 @@ fn count_text(alloc: Global, text: &[u8]) -> Result<Output, Stop>
     ensures stop { IfErr result (IsStop (IsUnfit text.now)) }
 {
     let checked = checked_of(alloc, text)?;
-    Ok(count(alloc, checked.program())?)
+    let counted = count(alloc, checked.program());
+    // for the prover alone: one call drops the program, in place of the drops of all its parts at each exit
+    drop(checked);
+    Ok(counted?)
 }
 
 /// Lists the program of a text.
@@ -76,7 +91,10 @@ fn list_text(alloc: Global, text: &[u8]) -> Result<Output, Stop>
     ensures stop { IfErr result (IsStop (IsNoProgram text.now)) }
 {
     let program = program_of(alloc, text)?;
-    Ok(list(alloc, &program)?)
+    let listed = list(alloc, &program);
+    // for the prover alone, as in `count_text`
+    drop(program);
+    Ok(listed?)
 }
 
 /// Runs the program of a text on one flat memory.
@@ -87,7 +105,10 @@ fn run_flat_text(alloc: Global, fuel: u32, text: &[u8]) -> Result<Output, Stop>
     ensures stop { IfErr result (IsStop (IsUnfit text.now)) }
 {
     let checked = checked_of(alloc, text)?;
-    Ok(run_flat(alloc, fuel, &checked)?)
+    let ran = run_flat(alloc, fuel, &checked);
+    // for the prover alone, as in `count_text`
+    drop(checked);
+    Ok(ran?)
 }
 
 /// Says of the program of a text whether some run of it may access a word outside its declared effects.
@@ -96,7 +117,10 @@ fn prove_text_effects(alloc: Global, text: &[u8]) -> Result<Output, Stop>
     ensures stop { IfErr result (IsStop (IsUnfit text.now)) }
 {
     let checked = checked_of(alloc, text)?;
-    Ok(prove_effects(alloc, &checked)?)
+    let proved = prove_effects(alloc, &checked);
+    // for the prover alone, as in `count_text`
+    drop(checked);
+    Ok(proved?)
 }
 
 /// Runs the program of a text on this thread alone, and reports the run.
