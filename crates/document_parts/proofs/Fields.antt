@@ -1,11 +1,11 @@
 -- A number in front of some bytes, and what stands there between a name and an end.
-use Rattle.std.proofs.Common.{◌≡◌, ℕ, ◌+◌, ◌-◌, ◌^◌, ◌<◌, ◌≤◌, false, List, [], ◌∷◌, ◌++◌, length, get_or, take, drop, Option, Some, None, IfNone, refl, sym, ap, subst, ◌∙◌, arith, length-append, append_assoc}
+use Rattle.std.proofs.Common.{◌≡◌, ℕ, ◌-◌, ◌^◌, ◌<◌, false, List, [], ◌∷◌, ◌++◌, length, get_or, take, drop, Option, Some, None, IfNone, sym, ap, subst, ◌∙◌, arith, append_assoc}
 use Rattle.std.proofs.lemmas.List.{append_cancel_left, take_all, length-drop, get_or_append_left}
 use Rattle.std.proofs.Math.Seq.{drop-append_seam}
 use Rattle.std.specs.Char.{is_ascii_digit}
 use Rattle.std.specs.Fmt.{decimal}
 use Rattle.std.specs.Str.Parse.{digits_value}
-use Rattle.document_parts.specs.Field.{field, IsFrom, Stands}
+use Rattle.document_parts.specs.Field.{field}
 use Rattle.document_parts.proofs.Digits.{front, front-splits, front-digits, front-decimal, decimal-value, decimal-plain, plain-decimal, IsPlain}
 
 pub if-none : {X : Type 0} (o : Option X) (P : Type 0) → P → IfNone o P

@@ -1,4 +1,4 @@
-use Rattle.std.proofs.Common.{◌≡◌, ◌++◌, ◌≤◌, ℕ, length, sym, ap, ◌∙◌, subst, arith}
+use Rattle.std.proofs.Common.{◌≡◌, ◌++◌, ◌≤◌, length, sym, ap, ◌∙◌, subst, arith}
 use Rattle.text_pieces.specs.Pieces.{hexadecimal}
 use Rattle.document_parts.proofs.Fields.{if-none}
 use Rattle.document_parts.proofs.Words.{word-read, word-length}

@@ -1,4 +1,4 @@
-use Rattle.std.proofs.Common.{◌≡◌, ◌+◌, ◌*◌, ◌-◌, ◌<◌, false, true, drop, length, get_or, arith, sym, ◌∙◌, take_while}
+use Rattle.std.proofs.Common.{◌≡◌, ◌+◌, ◌*◌, true, drop, get_or, arith, sym, ◌∙◌}
 use Rattle.std.specs.Str.Parse.{digits_value, digits_value_after}
 use Rattle.std.specs.Char.{is_ascii_digit}
 use Rattle.document_parts.proofs.Digits.{value-more, length-more, no-less, front}

@@ -1,6 +1,4 @@
-use Rattle.std.proofs.Common.{◌≡◌, ◌<◌, ◌^◌, ℕ, true, refl, sym, ap, ◌∙◌, arith, drop}
-use Rattle.std.specs.Str.Parse.{digits_value}
-use Rattle.document_parts.proofs.Digits.{front}
+use Rattle.std.proofs.Common.{◌≡◌, ◌<◌, ◌^◌, true, ap, ◌∙◌, arith, drop}
 use Rattle.document_parts.proofs.Fields.{if-none, value-of, plain-of, rest-of, seems-plain, number-parts, whole-rest}
 use Rattle.document_parts.proofs.numbers.numeral.Goals as goal
 use Rattle.document_parts.proofs.numbers.numeral.Goals.{then-value-least-via-then-value-least, then-value-least-via-else-value-least+then-not-is_plain}
