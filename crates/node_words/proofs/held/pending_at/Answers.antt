@@ -4,7 +4,7 @@ use Rattle.word_cache.specs.declared.row.Entry.TheVariants.{Valid, Registered, L
 use Rattle.word_cache.specs.Cache.{Pair, lookup, pending_count, pending_bit}
 use Rattle.word_cache.proofs.WeightLemmas.{pending-most}
 use Rattle.machine_rules.specs.Memory.{pending_value}
-use Rattle.dn_machine.proofs.words.pending_at.Goals as goal
+use Rattle.node_words.proofs.held.pending_at.Goals as goal
 
 -- where no entry is pending, that of the word isn't
 none-pending : (ps : List Pair) (w : ℕ) → pending_count ps ≡ 0 → None ≡ pending_value (lookup w ps)
