@@ -139,7 +139,7 @@ fn push_size_words(out: &mut Vec<u8>, chart: &Chart) -> Result<(), Memory>
     push_words_end(out)
 }
 
-/// Adds both.
+/// Adds the title and the machine's size.
 #[tactic(auto, unfolding(crate::specs::Picture::heading))]
 fn push_heading(out: &mut Vec<u8>, chart: &Chart) -> Result<(), Memory>
     ensures { OnOk result (out.new.items ≡ out.old.items ++ heading chart.now) }

@@ -79,6 +79,7 @@ fn note(rows: &mut Vec<Sequence<Interval>>, words: u32, claim: Claim) -> Result<
 fn empty_rows(alloc: Global, count: usize) -> Result<Vec<Sequence<Interval>>, Memory>
     ensures { IfOk result (λ rows. rows.items ≡ replicate count []) }
 {
+    // for the prover alone: the push of a `Sequence` says what the list is, and that of a `Vec` its capacity too
     let mut rows = Sequence::from_vec(Vec::with_capacity(alloc, count)?);
     for _row in 0..count {
         rows.push(Sequence::new(alloc))?;

@@ -128,6 +128,7 @@ fn put_on<'a>(shelf: &mut Shelf<'a>, name: &'a [u8], meaning: Meaning) -> Result
 fn empty_shelves<'a>(alloc: Global, count: usize) -> Result<Vec<Shelf<'a>>, Memory>
     ensures { IfOk result (λ shelves. All IsEmpty shelves.items) }
 {
+    // for the prover alone: the push of a `Sequence` says what the list is, and that of a `Vec` its capacity too
     let mut shelves = Sequence::from_vec(Vec::with_capacity(alloc, count)?);
     for _shelf in 0..count {
         shelves.push(BTreeMap::new(alloc))?;
