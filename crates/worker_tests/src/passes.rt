@@ -21,7 +21,6 @@ use registry_bank::Bank;
 use rv_core::DecodedProgram;
 use std::alloc::Global;
 use std::sync::Wait;
-use std::test::Fail;
 
 /// A bank of four, of a machine with one core, one word that is 0, and no locks.
 fn bank(alloc: Global, number: u32) -> Result<BankActor, Memory>
@@ -100,11 +99,11 @@ fn crew(alloc: Global, context: &Context<'_>) -> Result<Crew, Memory>
     })
 }
 
-/// How many events each of some passes made, and what the worker owns then.
+/// How many events each of some passes made, and what the worker noted.
 #[derive(Drop)]
 struct Passes {
     made: [u32; 8],
-    crew: Crew,
+    noted: Vec<Stamped>,
 }
 
 /// One pass. The tests see what it did by its answer and by what the worker owns then.
@@ -124,9 +123,44 @@ fn one_pass<R: Wait>(
     worker_pass(rt, hall, pass, context, crew, draws, &OpenGate)
 }
 
-/// Eight passes of a worker.
+/// Eight passes of a worker: how many events each made.
 fn eight_passes<R: Wait>(
     rt: &R,
+    hall: &Hall,
+    context: &Context<'_>,
+    pass: &mut Pass,
+    crew: &mut Crew,
+) -> Result<[u32; 8], Memory>
+    requires may { MayAct (setting context.now) hall.now pass.old }
+    requires crew { IsCrew (setting context.now) crew.old }
+{
+    let mut draws = Pcg32::seed_from_u64(1);
+    let mut made = [0; 8];
+    for answer in made.iter_mut() {
+        *answer = one_pass(rt, hall, context, pass, crew, &mut draws)?;
+    }
+    Ok(made)
+}
+
+/// What a worker noted: of its cores, of its banks, and of the keeper.
+fn noted(alloc: Global, crew: &Crew) -> Result<Vec<Stamped>, Memory> {
+    let mut all = Vec::new(alloc);
+    for owned in crew.cores.iter() {
+        all.extend_from_slice(owned.log.as_slice())?;
+    }
+    for owned in crew.banks.iter() {
+        all.extend_from_slice(owned.log.as_slice())?;
+    }
+    if let Some(log) = &crew.keeper {
+        all.extend_from_slice(log.as_slice())?;
+    }
+    Ok(all)
+}
+
+/// Eight passes of a worker, and what it noted.
+fn passes_of<R: Wait>(
+    rt: &R,
+    alloc: Global,
     hall: &Hall,
     context: &Context<'_>,
     mut pass: Pass,
@@ -135,12 +169,20 @@ fn eight_passes<R: Wait>(
     requires may { MayAct (setting context.now) hall.now pass }
     requires crew { IsCrew (setting context.now) crew }
 {
-    let mut draws = Pcg32::seed_from_u64(1);
-    let mut made = [0; 8];
-    for answer in made.iter_mut() {
-        *answer = one_pass(rt, hall, context, &mut pass, &mut crew, &mut draws)?;
-    }
-    Ok(Passes { made, crew })
+    let made = eight_passes(rt, hall, context, &mut pass, &mut crew)?;
+    let noted = noted(alloc, &crew)?;
+    Ok(Passes { made, noted })
+}
+
+/// The first eight passes in a new hall.
+fn passes_in<R: Wait>(rt: &R, alloc: Global, context: &Context<'_>) -> Result<Passes, Memory>
+    requires context { IsContext (setting context.now) }
+    requires cores { (setting context.now).shape.cores ≡ 1 }
+    requires banks { (setting context.now).shape.banks ≡ 4 }
+{
+    let (hall, pass) = hall(alloc)?;
+    let crew = crew(alloc, context)?;
+    passes_of(rt, alloc, &hall, context, pass, crew)
 }
 
 /// The first eight passes over a program of one core, or the error where it has more.
@@ -163,24 +205,7 @@ fn first_passes<R: Wait>(rt: &R, alloc: Global, checked: Checked) -> Result<Pass
         },
         fuel: 32_768,
     };
-    let (hall, pass) = hall(alloc)?;
-    let crew = crew(alloc, &context)?;
-    eight_passes(rt, &hall, &context, pass, crew)
-}
-
-/// What a worker noted: of its cores, of its banks, and of the keeper.
-fn noted(alloc: Global, crew: Crew) -> Result<Vec<Stamped>, Memory> {
-    let mut all = Vec::new(alloc);
-    for owned in crew.cores {
-        all.extend_from_slice(owned.log.as_slice())?;
-    }
-    for owned in crew.banks {
-        all.extend_from_slice(owned.log.as_slice())?;
-    }
-    if let Some(log) = crew.keeper {
-        all.extend_from_slice(log.as_slice())?;
-    }
-    Ok(all)
+    passes_in(rt, alloc, &context)
 }
 
 /// The events of `STORE_FIVE` as its only worker notes them: those of core 0, then that of bank 0, then that of the keeper.
@@ -189,12 +214,16 @@ fn wanted() -> [Stamped; 10] {
     [a, b, c, d, e, f, g, h, asked, arrived]
 }
 
-#[test]
-fn one_worker_makes_the_run_in_seven_passes(rt: HostRuntime) -> Result<(), Fail> {
-    let alloc = rt.alloc();
+/// The first eight passes over `STORE_FIVE`.
+fn passes_of_store_five<R: Wait>(rt: &R, alloc: Global) -> Result<Passes, Memory> {
     let checked = checked_of(alloc, STORE_FIVE)?;
-    let Passes { made, crew } = first_passes(&rt, alloc, checked)?;
+    first_passes(rt, alloc, checked)
+}
+
+#[test]
+fn one_worker_makes_the_run_in_seven_passes(rt: HostRuntime) -> Result<(), Memory> {
+    let Passes { made, noted } = passes_of_store_five(&rt, rt.alloc())?;
     assert_eq!(rt; made, [1, 1, 2, 2, 1, 2, 1, 0]);
-    assert_eq!(rt; noted(alloc, crew)?.as_slice(), wanted().as_slice());
+    assert_eq!(rt; noted.as_slice(), wanted().as_slice());
     Ok(())
 }

@@ -12,7 +12,6 @@ use rv_core::{EndShown, TaskEnd};
 use std::alloc::Global;
 use std::sync::Wait;
 use std::sync::atomic::{AtomicU32, Ordering};
-use std::test::Fail;
 use std::thread::Threads;
 use turn_lock::Entry;
 
@@ -151,8 +150,9 @@ fn steps_of(worker: u32, history: &[Entry<BankActor>]) -> u32 {
 
 /// One worker makes the run in one round. With four, the gate is called once for each step of a bank.
 #[test]
-fn rounds_are_made_by_one_worker_and_by_four(rt: HostRuntime) -> Result<(), Fail> {
+fn rounds_are_made_by_one_worker_and_by_four(rt: HostRuntime) -> Result<(), Memory> {
     let alloc = rt.alloc();
+    assert_eq!(rt; round_of_four(&rt, alloc)?, (4, None));
     let end = TaskEnd {
         phase: PhaseId(0),
         core: CoreId(0),
@@ -163,6 +163,5 @@ fn rounds_are_made_by_one_worker_and_by_four(rt: HostRuntime) -> Result<(), Fail
     assert_eq!(rt; left.merged.as_slice(), events_of_store_five().as_slice());
     assert_eq!(rt; left.ends.as_slice(), [end].as_slice());
     assert_eq!(rt; (left.made, left.pick, left.word), (10, None, 5));
-    assert_eq!(rt; round_of_four(&rt, alloc)?, (4, None));
     Ok(())
 }
