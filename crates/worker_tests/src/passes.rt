@@ -2,14 +2,13 @@
 ghost use Rattle.std.specs.Prelude.{◌≡◌, ◌<◌, [], length, IfOk, OnOk};
 ghost use Rattle.registration_protocol.specs.Fit.{IsContext};
 ghost use Rattle.registration_protocol.specs.Setting.{setting};
-ghost use Rattle.bank_hall.specs.Halls.{IsHallPass};
+ghost use Rattle.bank_hall.specs.Halls.{AreHallParts, IsHallPass};
 ghost use Rattle.host_workers.specs.Crews.{IsCrew};
 ghost use Rattle.host_workers.specs.Work.{MayAct};
 
 use crate::texts::{STORE_FIVE, checked_of, events_of_store_five};
 use bank_hall::{BankActor, Hall, HallParts, KeeperActor, Pass, Port};
 use dn_base::{BankId, CoreId, Memory, OpenGate, Shape};
-use effect_checker::Checked;
 use grant_log::Stamped;
 use host_workers::{BankLog, Crew, Owned, worker_pass};
 use phase_barrier::Keeper;
@@ -38,12 +37,12 @@ fn keeper(alloc: Global) -> KeeperActor
     KeeperActor::new(Keeper::new(1, 1), Vec::new(alloc), 0, 0)
 }
 
-/// The hall of the machine when a run begins, and its only pass.
-fn hall(alloc: Global) -> Result<(Hall, Pass), Memory>
-    ensures pass { IfOk result (λ r. IsHallPass r.0 r.1) }
-    ensures places { IfOk result (λ r. (length r.0.banks ≡ 4) × (length r.0.ports ≡ 1)) }
+/// The parts of the machine's hall when a run begins.
+fn parts(alloc: Global) -> Result<HallParts, Memory>
+    ensures parts { IfOk result (λ p. AreHallParts p.banks.items p.ports.items p.keeper) }
+    ensures places { IfOk result (λ p. (length p.banks.items ≡ 4) × (length p.ports.items ≡ 1)) }
 {
-    let parts = HallParts {
+    Ok(HallParts {
         banks: vec![in alloc;
             bank(alloc, 0)?,
             bank(alloc, 1)?,
@@ -52,8 +51,15 @@ fn hall(alloc: Global) -> Result<(Hall, Pass), Memory>
         ]?,
         ports: vec![in alloc; Port::new(Vec::new(alloc))]?,
         keeper: keeper(alloc),
-    };
-    let (hall, mut passes) = Hall::start(alloc, parts, 1)?;
+    })
+}
+
+/// The hall of the machine when a run begins, and its only pass.
+fn hall(alloc: Global) -> Result<(Hall, Pass), Memory>
+    ensures pass { IfOk result (λ r. IsHallPass r.0 r.1) }
+    ensures places { IfOk result (λ r. (length r.0.banks ≡ 4) × (length r.0.ports ≡ 1)) }
+{
+    let (hall, mut passes) = Hall::start(alloc, parts(alloc)?, 1)?;
     match passes.pop() {
         Some(pass) => Ok((hall, pass)),
         None => unreachable!(),
@@ -163,14 +169,14 @@ fn passes_of<R: Wait>(
     alloc: Global,
     hall: &Hall,
     context: &Context<'_>,
-    mut pass: Pass,
-    mut crew: Crew,
+    pass: &mut Pass,
+    crew: &mut Crew,
 ) -> Result<Passes, Memory>
-    requires may { MayAct (setting context.now) hall.now pass }
-    requires crew { IsCrew (setting context.now) crew }
+    requires may { MayAct (setting context.now) hall.now pass.old }
+    requires crew { IsCrew (setting context.now) crew.old }
 {
-    let made = eight_passes(rt, hall, context, &mut pass, &mut crew)?;
-    let noted = noted(alloc, &crew)?;
+    let made = eight_passes(rt, hall, context, pass, crew)?;
+    let noted = noted(alloc, crew)?;
     Ok(Passes { made, noted })
 }
 
@@ -180,14 +186,17 @@ fn passes_in<R: Wait>(rt: &R, alloc: Global, context: &Context<'_>) -> Result<Pa
     requires cores { (setting context.now).shape.cores ≡ 1 }
     requires banks { (setting context.now).shape.banks ≡ 4 }
 {
-    let (hall, pass) = hall(alloc)?;
-    let crew = crew(alloc, context)?;
-    passes_of(rt, alloc, &hall, context, pass, crew)
+    let (hall, mut pass) = hall(alloc)?;
+    let mut crew = crew(alloc, context)?;
+    passes_of(rt, alloc, &hall, context, &mut pass, &mut crew)
 }
 
 /// The first eight passes over a program of one core, or the error where it has more.
-fn first_passes<R: Wait>(rt: &R, alloc: Global, checked: Checked) -> Result<Passes, Memory> {
-    let decoded = DecodedProgram::new(alloc, checked.into_program())?;
+fn first_passes<R: Wait>(
+    rt: &R,
+    alloc: Global,
+    decoded: &DecodedProgram,
+) -> Result<Passes, Memory> {
     let program = decoded.program();
     let cores = program.cores();
     if cores != 1 {
@@ -195,7 +204,7 @@ fn first_passes<R: Wait>(rt: &R, alloc: Global, checked: Checked) -> Result<Pass
     }
     let plans = plans(alloc, program)?;
     let context = Context {
-        decoded: &decoded,
+        decoded,
         plans: plans.as_slice(),
         shape: Shape {
             cores,
@@ -217,7 +226,8 @@ fn wanted() -> [Stamped; 10] {
 /// The first eight passes over `STORE_FIVE`.
 fn passes_of_store_five<R: Wait>(rt: &R, alloc: Global) -> Result<Passes, Memory> {
     let checked = checked_of(alloc, STORE_FIVE)?;
-    first_passes(rt, alloc, checked)
+    let decoded = DecodedProgram::new(alloc, checked.into_program())?;
+    first_passes(rt, alloc, &decoded)
 }
 
 #[test]
