@@ -31,8 +31,8 @@ pub fn push_copies(
 pub fn push_grants(alloc: Global, out: &mut Vec<u8>, grants: &str) -> Result<(), AllocError> {
     for grant in grants.split_whitespace() {
         let grant = grant.replace(alloc, ".", " ")?;
-        let line = format!(in alloc; "grant {}", grant.as_str())?;
-        push_line(out, line.as_str())?;
+        out.extend_from_slice(b"grant ")?;
+        push_line(out, grant.as_str())?;
     }
     Ok(())
 }

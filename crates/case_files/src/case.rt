@@ -5,10 +5,10 @@ use crate::event_kinds::{counts, push_counts};
 use crate::numeral::{bytes, exit_code, number, numbers, positive};
 use crate::script::{ScriptLine, script_line};
 use crate::section::is_silent;
-use crate::texts::Texts;
+use crate::texts::{Texts, push_string};
 use crate::trouble::{BadForm, Trouble};
 use dn_base::{Memory, Sequence, TextSource, VecSink};
-use std::alloc::Global;
+use std::alloc::{AllocError, Global};
 use std::mem;
 
 /// What the program is given, and what it has to answer.
@@ -78,6 +78,29 @@ impl Case {
         }
     }
 
+    /// Sets the words, the exit code, or what the source or the sink does.
+    fn set(&mut self, alloc: Global, keyword: &str, rest: &str) -> Result<(), Trouble> {
+        match keyword {
+            "words" => self.words = words(alloc, rest)?,
+            "failing-reads" => self.failing_reads = numbers(alloc, rest)?,
+            "failing-writes" => self.failing_writes = numbers(alloc, rest)?,
+            _ => return self.set_number(keyword, rest),
+        }
+        Ok(())
+    }
+
+    /// Sets a number.
+    fn set_number(&mut self, keyword: &str, rest: &str) -> Result<(), Trouble> {
+        match keyword {
+            "exit" => self.exit = exit_code(rest)?,
+            "reads" => self.per_read = positive(rest)?,
+            "writes" => self.per_write = positive(rest)?,
+            "room" => self.room = number(rest)?,
+            _ => return Err(Trouble::Form(BadForm::NoKeyword)),
+        }
+        Ok(())
+    }
+
     /// What the program reads.
     pub fn source(&self, alloc: Global) -> Result<TextSource, Memory> {
         let (text, failing) = (self.text.as_slice(), self.failing_reads.as_slice());
@@ -111,20 +134,28 @@ impl Draft {
         if is_silent(line) {
             return Ok(());
         }
-        if let Some(content) = line.strip_prefix("  ") {
-            return self.take_content(place, content);
+        match line.strip_prefix("  ") {
+            Some(content) => self.take_content(place, content),
+            None => self.take_keyword(texts, line),
         }
+    }
+
+    /// Takes a line that begins with a keyword.
+    fn take_keyword(&mut self, texts: &Texts, line: &str) -> Result<(), Trouble> {
         let (keyword, rest) = line.split_once(' ').unwrap_or((line, ""));
         match keyword {
             "repeat" | "part" | "bytes" | "times" | "front" | "grants" | "counts" | "..." => {
                 self.add(keyword, rest)
             }
-            _ => {
-                self.close()?;
-                self.give(keyword)?;
-                self.set(texts, keyword, rest)
-            }
+            _ => self.begin(texts, keyword, rest),
         }
+    }
+
+    /// Ends what is open, and takes what stands once in a case.
+    fn begin(&mut self, texts: &Texts, keyword: &str, rest: &str) -> Result<(), Trouble> {
+        self.close()?;
+        self.give(keyword)?;
+        self.set(texts, keyword, rest)
     }
 
     /// Takes a line of a text, an output or a script.
@@ -146,8 +177,7 @@ impl Draft {
         if self.has(keyword) {
             return Err(Trouble::Form(BadForm::Twice));
         }
-        self.given.push(String::from_str(self.alloc, keyword)?)?;
-        Ok(())
+        Ok(push_string(self.alloc, &mut self.given, keyword)?)
     }
 
     /// Whether a keyword was given.
@@ -227,23 +257,8 @@ impl Draft {
                 self.case.script = Some(Vec::new(self.alloc));
                 Ok(())
             }
-            _ => self.set_value(keyword, rest),
+            _ => self.case.set(self.alloc, keyword, rest),
         }
-    }
-
-    /// Sets the words, the exit code, or what the source or the sink does.
-    fn set_value(&mut self, keyword: &str, rest: &str) -> Result<(), Trouble> {
-        match keyword {
-            "words" => self.case.words = words(self.alloc, rest)?,
-            "exit" => self.case.exit = exit_code(rest)?,
-            "reads" => self.case.per_read = positive(rest)?,
-            "writes" => self.case.per_write = positive(rest)?,
-            "room" => self.case.room = number(rest)?,
-            "failing-reads" => self.case.failing_reads = numbers(self.alloc, rest)?,
-            "failing-writes" => self.case.failing_writes = numbers(self.alloc, rest)?,
-            _ => return Err(Trouble::Form(BadForm::NoKeyword)),
-        }
-        Ok(())
     }
 
     /// Begins with nothing, or with the bytes of a file or of the text of an earlier case.
@@ -300,10 +315,10 @@ fn push_repeated(alloc: Global, out: &mut Vec<u8>, text: &str) -> Result<(), Tro
 }
 
 /// Words with blanks between them.
-fn words(alloc: Global, text: &str) -> Result<Vec<String>, Trouble> {
+fn words(alloc: Global, text: &str) -> Result<Vec<String>, AllocError> {
     let mut all = Vec::new(alloc);
     for word in text.split_whitespace() {
-        all.push(String::from_str(alloc, word)?)?;
+        push_string(alloc, &mut all, word)?;
     }
     Ok(all)
 }

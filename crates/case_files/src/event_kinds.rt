@@ -27,10 +27,8 @@ pub const KINDS: [(EventKind, &str); 17] = [
 
 /// The kind with a name.
 fn kind_named(name: &str) -> Option<EventKind> {
-    KINDS
-        .iter()
-        .find(|named| named.1 == name)
-        .map(|named| named.0)
+    let named = KINDS.iter().find(|named| named.1 == name)?;
+    Some(named.0)
 }
 
 /// The counts of the kinds that are named, each with its number after it; all other counts are 0.

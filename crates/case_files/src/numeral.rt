@@ -23,11 +23,7 @@ pub fn positive(text: &str) -> Result<u32, Trouble>
 
 /// Numbers in decimal digits with blanks between them.
 pub fn numbers(alloc: Global, text: &str) -> Result<Vec<u32>, Trouble> {
-    let mut all = Vec::new(alloc);
-    for word in text.split_whitespace() {
-        all.push(number(word)?)?;
-    }
-    Ok(all)
+    text.split_whitespace().map(number).try_collect(alloc)
 }
 
 /// An exit code.
@@ -51,9 +47,5 @@ fn byte(text: &str) -> Result<u8, Trouble> {
 
 /// Bytes with blanks between them.
 pub fn bytes(alloc: Global, text: &str) -> Result<Vec<u8>, Trouble> {
-    let mut all = Vec::new(alloc);
-    for word in text.split_whitespace() {
-        all.push(byte(word)?)?;
-    }
-    Ok(all)
+    text.split_whitespace().map(byte).try_collect(alloc)
 }

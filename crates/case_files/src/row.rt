@@ -1,7 +1,8 @@
 use crate::numeral::number;
-use crate::section::{behind, is_silent};
+use crate::section::{are_silent, behind, is_silent};
+use crate::texts::push_string;
 use crate::trouble::{BadForm, Trouble};
-use std::alloc::Global;
+use std::alloc::{AllocError, Global};
 
 /// The rows of a case, as lists of columns: a single row without columns if there are no lines.
 pub fn rows(alloc: Global, lines: &[&str]) -> Result<Vec<Vec<String>>, Trouble> {
@@ -43,7 +44,7 @@ fn listed(alloc: Global, lines: &[&str]) -> Result<Vec<Vec<String>>, Trouble> {
 fn columns(alloc: Global, row: &str) -> Result<Vec<String>, Trouble> {
     let mut columns = Vec::new(alloc);
     for column in row.split('|') {
-        columns.push(String::from_str(alloc, column.trim_ascii())?)?;
+        push_string(alloc, &mut columns, column.trim_ascii())?;
     }
     Ok(columns)
 }
@@ -53,19 +54,30 @@ fn counted(alloc: Global, range: &str, others: &[&str]) -> Result<Vec<Vec<String
     let Some((from, to)) = range.split_once(" to ") else {
         return Err(Trouble::Form(BadForm::NoRow));
     };
-    if !others.iter().all(|line| is_silent(line)) {
+    if !are_silent(others) {
         return Err(Trouble::Form(BadForm::NoRow));
     }
+    let (from, to) = (number(from)?, number(to)?);
+    if to < from {
+        return Err(Trouble::Form(BadForm::NoRow));
+    }
+    Ok(numbered(alloc, from, to)?)
+}
+
+/// A row for each number between these, which are the first and the last.
+fn numbered(alloc: Global, from: u32, to: u32) -> Result<Vec<Vec<String>>, AllocError> {
     let mut rows = Vec::new(alloc);
-    for row in number(from)?..=number(to)? {
-        let mut columns = Vec::new(alloc);
-        columns.push(row.to_string(alloc)?)?;
-        rows.push(columns)?;
-    }
-    if rows.is_empty() {
-        return Err(Trouble::Form(BadForm::NoRow));
+    for number in from..=to {
+        rows.push(one_column(alloc, number)?)?;
     }
     Ok(rows)
+}
+
+/// A row whose one column is a number.
+fn one_column(alloc: Global, number: u32) -> Result<Vec<String>, AllocError> {
+    let mut columns = Vec::new(alloc);
+    columns.push(number.to_string(alloc)?)?;
+    Ok(columns)
 }
 
 /// A line with its columns in place of `$1`, `$2` and so on.

@@ -29,36 +29,63 @@ fn words<'a>(alloc: Global, line: &'a str) -> Result<Vec<&'a str>, Trouble> {
 
 /// The mail that these words name: who sent it, and its number among the mails of that sender, from 0.
 fn mail(words: &[&str]) -> Result<MailId, Trouble> {
-    let (sender, count) = match words {
-        ["core", core, count] => (Actor::Core(CoreId(number(core)?)), count),
-        ["bank", bank, count] => (Actor::Bank(BankId(number(bank)?)), count),
-        ["keeper", count] => (Actor::Keeper, count),
-        _ => return Err(Trouble::Form(BadForm::NoEvent)),
+    let Some((count, sender)) = words.split_last() else {
+        return Err(Trouble::Form(BadForm::NoEvent));
     };
+    let sender = actor(sender)?;
     let number = number(count)?;
     Ok(MailId { sender, number })
+}
+
+/// The actor that these words name.
+fn actor(words: &[&str]) -> Result<Actor, Trouble> {
+    match words {
+        ["core", core] => Ok(Actor::Core(CoreId(number(core)?))),
+        ["bank", bank] => Ok(Actor::Bank(BankId(number(bank)?))),
+        ["keeper"] => Ok(Actor::Keeper),
+        _ => Err(Trouble::Form(BadForm::NoEvent)),
+    }
+}
+
+/// The eviction of a word by a core.
+fn eviction(core: &str, word: &str) -> Result<Event, Trouble> {
+    Ok(Event::Evict(CoreId(number(core)?), WordId(number(word)?)))
 }
 
 /// The event that these words name.
 fn event(words: &[&str]) -> Result<Event, Trouble> {
     match words {
         ["instr", core] => Ok(Event::Instr(CoreId(number(core)?))),
-        ["evict", core, word] => Ok(Event::Evict(CoreId(number(core)?), WordId(number(word)?))),
+        ["evict", core, word] => eviction(core, word),
         ["arrive", core] => Ok(Event::Arrive(CoreId(number(core)?))),
         ["handle", words @ ..] => Ok(Event::Handle(mail(words)?)),
         _ => Err(Trouble::Form(BadForm::NoEvent)),
     }
 }
 
+/// The load of a value from a word.
+fn load(word: &str, value: &str) -> Result<Said, Trouble> {
+    let word = WordId(number(word)?);
+    let value = number(value)?;
+    Ok(Said::Loads(LoadSeen { word, value }))
+}
+
+/// The value of a word.
+fn word_value(word: &str, value: &str) -> Result<Said, Trouble> {
+    Ok(Said::Word(WordId(number(word)?), number(value)?))
+}
+
+/// The event that these words name, this many times.
+fn times(words: &[&str], count: &str) -> Result<Said, Trouble> {
+    Ok(Said::Comes(event(words)?, positive(count)?))
+}
+
 /// What these words say.
 fn saying(words: &[&str]) -> Result<Said, Trouble> {
     match words {
-        ["loads", word, value] => Ok(Said::Loads(LoadSeen {
-            word: WordId(number(word)?),
-            value: number(value)?,
-        })),
-        ["word", word, value] => Ok(Said::Word(WordId(number(word)?), number(value)?)),
-        [front @ .., "times", count] => Ok(Said::Comes(event(front)?, positive(count)?)),
+        ["loads", word, value] => load(word, value),
+        ["word", word, value] => word_value(word, value),
+        [front @ .., "times", count] => times(front, count),
         _ => Ok(Said::Comes(event(words)?, 1)),
     }
 }

@@ -13,6 +13,12 @@ pub struct Texts {
     all: Vec<Named>,
 }
 
+/// Adds a string of this text.
+pub fn push_string(alloc: Global, all: &mut Vec<String>, text: &str) -> Result<(), AllocError> {
+    all.push(String::from_str(alloc, text)?)?;
+    Ok(())
+}
+
 impl Texts {
     /// No texts.
     pub fn new(alloc: Global) -> Texts {
@@ -31,9 +37,7 @@ impl Texts {
 
     /// The text of this name.
     pub fn find(&self, name: &str) -> Option<&[u8]> {
-        self.all
-            .iter()
-            .find(|named| named.name.as_str() == name)
-            .map(|named| named.bytes.as_slice())
+        let named = self.all.iter().find(|named| named.name.as_str() == name)?;
+        Some(named.bytes.as_slice())
     }
 }

@@ -1,10 +1,10 @@
 use crate::case::{Case, Draft};
 use crate::row::{filled, rows};
-use crate::section::{Section, behind, is_silent, sections};
+use crate::section::{Section, behind, sections};
 use crate::texts::{Named, Texts};
 use crate::trouble::{BadForm, Stop, Trouble};
 use dn_base::Memory;
-use std::alloc::Global;
+use std::alloc::{AllocError, Global};
 use std::str;
 
 /// What is done with the cases of the files.
@@ -80,11 +80,21 @@ impl<C: CaseRunner> Walk<'_, C> {
         requires { C.can_run }
     {
         let name = file.name.as_str();
-        let Ok(text) = str::from_utf8(file.bytes.as_slice()) else {
-            return self.refuse(name, 0, BadForm::NoText);
-        };
-        for section in sections(self.alloc, text)?.iter() {
-            self.run_section(name, section)?;
+        match str::from_utf8(file.bytes.as_slice()) {
+            Ok(text) => {
+                let sections = sections(self.alloc, text)?;
+                self.run_sections(name, sections.as_slice())
+            }
+            Err(_) => self.refuse(name, 0, BadForm::NoText),
+        }
+    }
+
+    /// Runs the cases of these sections of a file.
+    fn run_sections(&mut self, file: &str, sections: &[Section<'_>]) -> Result<(), Memory>
+        requires { C.can_run }
+    {
+        for section in sections {
+            self.run_section(file, section)?;
         }
         Ok(())
     }
@@ -94,58 +104,58 @@ impl<C: CaseRunner> Walk<'_, C> {
         requires { C.can_run }
     {
         let first = section.first;
-        let Some((head, lines)) = section.lines.split_first() else {
-            return Ok(());
-        };
-        let Some(name) = behind(head, "case") else {
-            if section.lines.iter().all(|line| is_silent(line)) {
-                return Ok(());
-            }
-            return self.refuse(file, first, BadForm::NoKeyword);
-        };
-        if name.is_empty() {
-            return self.refuse(file, first, BadForm::NoName);
+        match self.new_name(section) {
+            Ok(Some(name)) => self.run_rows(
+                &CasePosition { file, first, name },
+                section.lines.as_slice(),
+            ),
+            Ok(None) => Ok(()),
+            Err(why) => self.refuse(file, first, why),
         }
-        if self.texts.find(name).is_some() {
-            return self.refuse(file, first, BadForm::TakenName);
+    }
+
+    /// The name of a section's case, which no text has so far. A section without a case has none.
+    fn new_name<'s>(&self, section: &Section<'s>) -> Result<Option<&'s str>, BadForm> {
+        match section.case_name()? {
+            Some(name) if self.texts.find(name).is_some() => Err(BadForm::TakenName),
+            name => Ok(name),
         }
-        self.run_rows(&CasePosition { file, first, name }, lines)
     }
 
     /// Runs a case once or for each of its rows. Its text is known from then on; of rows it is the last one's.
     fn run_rows(&mut self, position: &CasePosition<'_>, lines: &[&str]) -> Result<(), Memory>
         requires { C.can_run }
     {
-        let each = lines
-            .iter()
-            .position(|line| behind(line, "each").is_some())
-            .unwrap_or(lines.len());
-        let (lines, rest) = lines.split_at(each);
-        let text = match rows(self.alloc, rest) {
-            Ok(rows) => self.run_each(position, lines, rows.as_slice())?,
+        let (lines, rest) = split_rows(lines);
+        match rows(self.alloc, rest) {
+            Ok(rows) => self.run_each(position, lines, rows.as_slice()),
             Err(why) => {
-                self.note(position, Stop { place: each, why })?;
-                Vec::new(self.alloc)
+                let place = lines.len();
+                self.note(position, Stop { place, why })?;
+                self.add_text(position, &[])
             }
-        };
-        self.texts.add(self.alloc, position.name, text.as_slice())?;
-        Ok(())
+        }
     }
 
-    /// Runs a case for each of these rows, and gives the last one's text.
+    /// Adds the text of a case.
+    fn add_text(&mut self, position: &CasePosition<'_>, text: &[u8]) -> Result<(), Memory> {
+        Ok(self.texts.add(self.alloc, position.name, text)?)
+    }
+
+    /// Runs a case for each of these rows, and adds the last one's text.
     fn run_each(
         &mut self,
         position: &CasePosition<'_>,
         lines: &[&str],
         rows: &[Vec<String>],
-    ) -> Result<Vec<u8>, Memory>
+    ) -> Result<(), Memory>
         requires { C.can_run }
     {
         let mut text = Vec::new(self.alloc);
         for row in rows {
             text = self.run_case(position, lines, row.as_slice())?;
         }
-        Ok(text)
+        self.add_text(position, text.as_slice())
     }
 
     /// Runs a case with these columns, and gives its text.
@@ -164,11 +174,24 @@ impl<C: CaseRunner> Walk<'_, C> {
                 return Ok(Vec::new(self.alloc));
             }
         };
-        let label = label(self.alloc, position, row)?;
-        if let Err(stop) = self.runner.run(self.alloc, label.as_str(), &case) {
-            self.note(position, stop)?;
-        }
+        self.run_read(position, row, &case)?;
         Ok(case.text)
+    }
+
+    /// Runs a case that was read with these columns.
+    fn run_read(
+        &mut self,
+        position: &CasePosition<'_>,
+        row: &[String],
+        case: &Case,
+    ) -> Result<(), Memory>
+        requires { C.can_run }
+    {
+        let label = label(self.alloc, position, row)?;
+        match self.runner.run(self.alloc, label.as_str(), case) {
+            Ok(()) => Ok(()),
+            Err(stop) => self.note(position, stop),
+        }
     }
 
     /// Notes that a case wasn't run to its end.
@@ -219,9 +242,24 @@ fn take_filled(
 fn label(alloc: Global, position: &CasePosition<'_>, row: &[String]) -> Result<String, Memory> {
     let CasePosition { file, first, name } = *position;
     let mut out = format!(in alloc; "{file}:{first}: {name}")?;
+    push_columns(&mut out, row)?;
+    Ok(out)
+}
+
+/// Adds the columns of a row to what a case is called.
+fn push_columns(out: &mut String, row: &[String]) -> Result<(), AllocError> {
     for column in row {
         out.push_str(" | ")?;
         out.push_str(column.as_str())?;
     }
-    Ok(out)
+    Ok(())
+}
+
+/// The lines of a case, and behind them those of its rows.
+fn split_rows<'a, 's>(lines: &'a [&'s str]) -> (&'a [&'s str], &'a [&'s str]) {
+    let each = lines
+        .iter()
+        .position(|line| behind(line, "each").is_some())
+        .unwrap_or(lines.len());
+    lines.split_at(each)
 }
