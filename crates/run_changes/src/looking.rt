@@ -4,6 +4,7 @@ ghost use Rattle.std.specs.List.{filter};
 ghost use Rattle.message_net.specs.Pool.{removed};
 ghost use Rattle.word_cache.specs.Cache.{in_set};
 ghost use Rattle.machine_rules.specs.Sound.{IsMachine};
+ghost use Rattle.run_changes.specs.declared.look.Look.TheVariants.{Node as OfNode};
 ghost use Rattle.run_changes.specs.Looks.{entry_before, pair_before, cached, words_needed, words_of_message, node_look, instr_look, evict_look, arrive_look, message_look, core_look, lock_look, bank_look, receiver_look, mail_look, look_at};
 
 use crate::look::{EntryBefore, LockLook, Look, NodeLook};
@@ -65,7 +66,7 @@ fn add_set(
 }
 
 /// Every word that a cache has.
-fn cached(alloc: Global, cache: &WordCache) -> Result<Sequence<EntryBefore>, Memory>
+pub(crate) fn cached(alloc: Global, cache: &WordCache) -> Result<Sequence<EntryBefore>, Memory>
     ensures { IfOk result (λ entries. entries ≡ cached cache.now) }
 {
     let mut entries = Sequence::new(alloc);
@@ -117,15 +118,16 @@ fn copied(alloc: Global, signatures: &[Signature]) -> Result<Sequence<Signature>
 }
 
 /// A node of which these words are looked at.
-fn node_look(
+fn look_at_node(
     alloc: Global,
+    core: CoreId,
     node: &Node,
     needs: Option<Need>,
     entries: Sequence<EntryBefore>,
-) -> Result<NodeLook, Memory>
-    ensures { IfOk result (λ look. look ≡ node_look node.now needs entries) }
+) -> Result<Look, Memory>
+    ensures { IfOk result (λ look. look ≡ OfNode core (node_look node.now needs entries)) }
 {
-    Ok(NodeLook {
+    let look = NodeLook {
         phase: node.phase(),
         task: node.task().copied(),
         needs,
@@ -134,7 +136,20 @@ fn node_look(
         arrived: node.has_arrived(),
         halted: node.has_halted(),
         entries,
-    })
+    };
+    Ok(Look::Node(core, look))
+}
+
+/// The node of a core, if there is such a core.
+fn node_of(machine: &Machine, core: CoreId) -> Option<&Node>
+    requires { IsMachine machine.now.state }
+    ensures { option_copied result ≡ slice_get machine.now.state.nodes core.0 }
+{
+    if core.0 < machine.shape().cores {
+        Some(machine.node(core))
+    } else {
+        None
+    }
 }
 
 /// Looks at a core before its next instruction.
@@ -142,13 +157,11 @@ fn look_at_instr(alloc: Global, machine: &Machine, core: CoreId) -> Result<Look,
     requires { IsMachine machine.now.state }
     ensures { IfOk result (λ look. look ≡ core_look core (instr_look machine.now.state.setting) (slice_get machine.now.state.nodes core.0)) }
 {
-    if core.0 >= machine.shape().cores {
+    let Some(node) = node_of(machine, core) else {
         return Ok(Look::Nothing);
-    }
-    let node = machine.node(core);
+    };
     let needs = node.needs(machine.program(), machine.fuel());
-    let entries = words_needed(alloc, node, needs)?;
-    Ok(Look::Node(core, node_look(alloc, node, needs, entries)?))
+    look_at_node(alloc, core, node, needs, words_needed(alloc, node, needs)?)
 }
 
 /// Looks at a core before it evicts a word.
@@ -161,12 +174,10 @@ fn look_at_evict(
     requires { IsMachine machine.now.state }
     ensures { IfOk result (λ look. look ≡ core_look core (evict_look word) (slice_get machine.now.state.nodes core.0)) }
 {
-    if core.0 >= machine.shape().cores {
+    let Some(node) = node_of(machine, core) else {
         return Ok(Look::Nothing);
-    }
-    let node = machine.node(core);
-    let entries = one_word(alloc, node, word)?;
-    Ok(Look::Node(core, node_look(alloc, node, None, entries)?))
+    };
+    look_at_node(alloc, core, node, None, one_word(alloc, node, word)?)
 }
 
 /// Looks at a core before it arrives at the barrier.
@@ -174,12 +185,10 @@ fn look_at_arrive(alloc: Global, machine: &Machine, core: CoreId) -> Result<Look
     requires { IsMachine machine.now.state }
     ensures { IfOk result (λ look. look ≡ core_look core arrive_look (slice_get machine.now.state.nodes core.0)) }
 {
-    if core.0 >= machine.shape().cores {
+    let Some(node) = node_of(machine, core) else {
         return Ok(Look::Nothing);
-    }
-    let node = machine.node(core);
-    let none = Sequence::new(alloc);
-    Ok(Look::Node(core, node_look(alloc, node, None, none)?))
+    };
+    look_at_node(alloc, core, node, None, Sequence::new(alloc))
 }
 
 /// Looks at a core before it handles a message.
@@ -192,12 +201,11 @@ fn look_at_core(
     requires { IsMachine machine.now.state }
     ensures { IfOk result (λ look. look ≡ core_look core (message_look message) (slice_get machine.now.state.nodes core.0)) }
 {
-    if core.0 >= machine.shape().cores {
+    let Some(node) = node_of(machine, core) else {
         return Ok(Look::Nothing);
-    }
-    let node = machine.node(core);
+    };
     let entries = words_of_message(alloc, node, message)?;
-    Ok(Look::Node(core, node_look(alloc, node, None, entries)?))
+    look_at_node(alloc, core, node, None, entries)
 }
 
 /// Looks at a lock at its home.
@@ -269,9 +277,10 @@ fn look_at_handle(alloc: Global, machine: &Machine, id: MailId) -> Result<Look, 
 /// What is looked at before an event.
 #[tactic(auto, unfolding(crate::specs::Looks::look_at))]
 pub(crate) fn look_at(alloc: Global, machine: &Machine, event: Event) -> Result<Look, Memory>
-    requires { IsMachine machine.now.state }
     ensures { IfOk result (λ look. look ≡ look_at machine.now.state event) }
 {
+    // for the proof alone: the machine is well formed before the event
+    a_machine_is_kept(machine);
     match event {
         Event::Instr(core) => look_at_instr(alloc, machine, core),
         Event::Evict(core, word) => look_at_evict(alloc, machine, core, word),

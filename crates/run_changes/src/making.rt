@@ -4,6 +4,7 @@ ghost use Rattle.machine_rules.specs.Next.{next, enabled};
 ghost use Rattle.machine_rules.specs.Sound.{IsMachine};
 ghost use Rattle.machine_rules.specs.State.{word_in, lock_in};
 ghost use Rattle.run_changes.specs.Changes.{core_changes, home_change, queue_change, changes_by};
+ghost use Rattle.run_changes.specs.Looks.{look_at};
 ghost use Rattle.run_changes.specs.Events.{count_left_by, outgoing_of, event_told, event_made};
 
 use crate::banks::{note_barrier, note_home, note_queue};
@@ -127,9 +128,10 @@ fn told(
     left: u32,
     came: (Actor, Stepped),
 ) -> Result<EventMade, Memory>
-    requires { IsMachine machine.now.state }
     ensures { IfOk result (λ made. made ≡ event_told machine.now.state look.now left came) }
 {
+    // for the proof alone: the machine is well formed after the event
+    a_machine_is_kept(machine);
     let (actor, stepped) = came;
     let mut changes = Vec::new(alloc);
     note_changes(alloc, &mut changes, machine, look, stepped.seen)?;
@@ -139,6 +141,28 @@ fn told(
         changes: Sequence::from_vec(changes),
         sent: sent_from(alloc, machine.pool(), left)?,
     })
+}
+
+/// Makes an event if it may come, and tells what it did by what was looked at before it.
+fn make_looked_at(
+    alloc: Global,
+    machine: &mut Machine,
+    event: Event,
+    look: &Look,
+) -> Result<Option<EventMade>, Memory>
+    requires made { machine.old.made < 4000000000 }
+    requires look { look.now ≡ look_at machine.old.state event }
+    ensures none { IfOk result (λ came. IfNone came ((enabled machine.old.state event ≡ false) × (machine.new ≡ machine.old))) }
+    ensures may { IfOk result (λ came. IfSome came (λ made. enabled machine.old.state event ≡ true)) }
+    ensures made { IfOk result (λ came. IfSome came (λ made. made ≡ event_made machine.old.state event)) }
+    ensures state { IfOk result (λ came. IfSome came (λ made. machine.new.state ≡ next machine.old.state event)) }
+    ensures count { IfOk result (λ came. IfSome came (λ made. machine.new.made ≡ machine.old.made + 1)) }
+{
+    let left = count_left_by(machine.pool(), event);
+    match machine.try_step(event)? {
+        None => Ok(None),
+        Some(came) => Ok(Some(told(alloc, machine, look, left, came)?)),
+    }
 }
 
 /// Makes an event if it may come. Gives its actor, its kind, what it changed and what it sent. None exactly if it may not come;
@@ -157,14 +181,6 @@ pub fn make(alloc: Global, machine: &mut Machine, event: Event) -> Result<Option
     ensures state { IfOk result (λ came. IfSome came (λ made. machine.new.state ≡ next machine.old.state event)) }
     ensures count { IfOk result (λ came. IfSome came (λ made. machine.new.made ≡ machine.old.made + 1)) }
 {
-    // for the proof alone: the machine is well formed before the event and after it
-    a_machine_is_kept(machine);
     let look = look_at(alloc, machine, event)?;
-    let left = count_left_by(machine.pool(), event);
-    let came = machine.try_step(event)?;
-    a_machine_is_kept(machine);
-    match came {
-        None => Ok(None),
-        Some(came) => Ok(Some(told(alloc, machine, &look, left, came)?)),
-    }
+    make_looked_at(alloc, machine, event, &look)
 }

@@ -33,7 +33,7 @@ fn is_same_entry(before: Entry, after: Entry) -> bool
 }
 
 /// What becomes of the entry of a word.
-fn note_entry(
+pub(crate) fn note_entry(
     out: &mut Vec<Change>,
     word: WordId,
     before: Option<Entry>,

@@ -1,19 +1,18 @@
 //! How a machine's state differs from the beginning of its run.
-ghost use Rattle.std.specs.Prelude.{◌≡◌, ◌++◌, ◌<◌, ◌≤◌, ◌∷◌, [], length, map, replicate, slice_get, Some, IfOk, OnOk};
-ghost use Rattle.std.specs.List.{filter};
-ghost use Rattle.word_cache.specs.Cache.{in_set};
+ghost use Rattle.std.specs.Prelude.{◌≡◌, ◌++◌, ◌<◌, ◌≤◌, ◌∷◌, [], flat_map, length, replicate, slice_get, None, Some, IfOk, OnOk};
 ghost use Rattle.message_net.specs.declared.actor.Actor.TheVariants.{Core as OfCore, Bank as OfBank, Keeper as OfKeeper};
 ghost use Rattle.write_signature.specs.Signature.{empty};
 ghost use Rattle.registry_bank.specs.declared.bank.BankWord.TheVariants.{Home as AtHome};
 ghost use Rattle.machine_rules.specs.Sound.{IsMachine};
 ghost use Rattle.machine_rules.specs.State.{home_at, lock_at};
-ghost use Rattle.run_changes.specs.Changes.{barrier_change, home_change, queue_change, lock_changes, locks_held};
-ghost use Rattle.run_changes.specs.Since.{changes_of, pair_held, held_from, end_since, task_since, node_since, core_since, cores_since, home_of, word_since, words_since, free_look, lock_since, locks_since, changes_since};
+ghost use Rattle.run_changes.specs.Changes.{barrier_change, entry_change, home_change, queue_change, lock_changes, locks_held};
+ghost use Rattle.run_changes.specs.Since.{changes_of, held_from, end_since, task_since, node_since, core_since, cores_since, home_of, word_since, words_since, free_look, lock_since, locks_since, changes_since};
 
 use crate::banks::{note_barrier, note_home, note_queue};
 use crate::change::{ActorChanges, Change};
-use crate::look::LockLook;
-use crate::parts::{locks_held, note, note_flag, note_locks, note_wait};
+use crate::look::{EntryBefore, LockLook};
+use crate::looking::cached;
+use crate::parts::{locks_held, note, note_entry, note_flag, note_locks, note_wait};
 use dn_base::{BankId, CoreId, LockId, Memory, PhaseId, Sequence, WordId, remainder};
 use dn_machine::{Machine, a_machine_is_kept};
 use message_net::Actor;
@@ -23,36 +22,26 @@ use registration_protocol::{Node, NodeWait};
 use registry_bank::BankWord;
 use rv_core::{End, TaskState};
 use std::alloc::Global;
-use word_cache::{Entry, WordCache};
+use word_cache::WordCache;
 use write_signature::Signature;
 
-/// Adds the entries of pairs.
-fn add_pairs(out: &mut Vec<Change>, pairs: &[(WordId, Entry)]) -> Result<(), Memory>
-    ensures { OnOk result (out.new.items ≡ out.old.items ++ map pair_held pairs.now) }
+/// Adds the entries of words.
+fn add_entries(out: &mut Vec<Change>, entries: &[EntryBefore]) -> Result<(), Memory>
+    ensures { OnOk result (out.new.items ≡ out.old.items ++ flat_map (λ e. entry_change e.word None e.entry) entries.now) }
 {
-    for pair in pairs {
-        note(out, Change::Holds(pair.0, pair.1))?;
+    for entry in entries {
+        note_entry(out, entry.word, None, entry.entry)?;
     }
     Ok(())
-}
-
-/// Adds the entries of a set of a cache.
-fn note_set(alloc: Global, out: &mut Vec<Change>, cache: &WordCache, set: u32) -> Result<(), Memory>
-    requires { set < cache.now.sets }
-    ensures { OnOk result (out.new.items ≡ out.old.items ++ map pair_held (filter (in_set cache.now.sets set) cache.now.pairs)) }
-{
-    let pairs = cache.pairs(alloc, set)?;
-    add_pairs(out, pairs.as_slice())
 }
 
 /// Adds every entry that a cache has.
+#[tactic(auto, using(crate::proofs::Listed::cached_held))]
 fn note_cache(alloc: Global, out: &mut Vec<Change>, cache: &WordCache) -> Result<(), Memory>
     ensures { OnOk result (out.new.items ≡ out.old.items ++ held_from cache.now 0 cache.now.sets) }
 {
-    for set in 0..cache.sets() {
-        note_set(alloc, out, cache, set)?;
-    }
-    Ok(())
+    let entries = cached(alloc, cache)?;
+    add_entries(out, entries.as_slice())
 }
 
 /// How a task has ended.
