@@ -78,6 +78,52 @@ fn next_round<R: Threads + Wait + Sync>(
     run_round(rt, alloc, machine, workers, seed, &OpenGate)
 }
 
+/// Makes one round and counts it. Gives the machine that it leaves.
+///
+/// # Errors
+/// `Memory` where there is no room.
+fn count_round<R: Threads + Wait + Sync>(
+    rt: &R,
+    alloc: Global,
+    machine: Machine,
+    workers: u32,
+    seed: u32,
+    tally: &mut Tally,
+) -> Result<Machine, Memory>
+    requires some { 1 ≤ workers }
+    requires few { workers ≤ 16 }
+    requires made { machine.made < 3000000000 }
+{
+    let round = next_round(rt, alloc, machine, workers, seed)?;
+    tally.add(&round);
+    Ok(round.machine)
+}
+
+/// Makes rounds until the run is over, and counts them.
+///
+/// # Errors
+/// `Memory` where there is no room.
+fn count_all<R: Threads + Wait + Sync>(
+    rt: &R,
+    alloc: Global,
+    machine: Machine,
+    workers: u32,
+    seed: u32,
+    tally: &mut Tally,
+) -> Result<(), Memory>
+    requires some { 1 ≤ workers }
+    requires few { workers ≤ 16 }
+{
+    let mut current = machine;
+    for round in 0..u32::MAX {
+        if is_over(&current) {
+            break;
+        }
+        current = count_round(rt, alloc, current, workers, seed.wrapping_add(round), tally)?;
+    }
+    Ok(())
+}
+
 /// Makes a run in rounds, as `run_workers` does, and counts. Workers that own no bank and no core are not counted.
 ///
 /// # Errors
@@ -97,14 +143,6 @@ pub fn count_rounds<R: Threads + Wait + Sync>(
         rounds: 0,
         passes: [0; 16],
     };
-    let mut current = machine;
-    for round in 0..u32::MAX {
-        if is_over(&current) {
-            break;
-        }
-        let made = next_round(rt, alloc, current, workers, seed.wrapping_add(round))?;
-        tally.add(&made);
-        current = made.machine;
-    }
+    count_all(rt, alloc, machine, workers, seed, &mut tally)?;
     Ok(tally)
 }
