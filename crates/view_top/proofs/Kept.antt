@@ -3,7 +3,6 @@ use Rattle.std.proofs.Common.{◌≡◌, inr, ℕ, ◌≤◌, List, length, Resu
 use Rattle.dn_base.specs.declared.ids.Shape.{Shape}
 use Rattle.region_table.specs.Program.{ProgramParts}
 use Rattle.rv_assembler.specs.Source.{source}
-use Rattle.text_places.specs.declared.places.Located.{Located}
 use Rattle.effect_checker.specs.Checked.{IsChecked}
 use Rattle.message_net.specs.declared.event.Event.{Event}
 use Rattle.registration_protocol.specs.Node.{Setting}
@@ -24,7 +23,7 @@ use Rattle.dn_top.proofs.OneProgram.{one-program}
 use Rattle.view_top.specs.declared.answering.Output.{Output}
 use Rattle.view_top.specs.declared.documents.KeptRun.{KeptRun}
 use Rattle.view_words.specs.declared.options.StateOptions.{StateOptions}
-use Rattle.view_top.specs.Answers.{located, HasKeptRun, IsStateShown}
+use Rattle.view_top.specs.Answers.{HasKeptRun, IsStateShown}
 use Rattle.view_top.specs.Kept.{kept_run_of, IsFit, IsKeptRun, IsViewable}
 
 -- the events of a document's run are a run of its machine

@@ -1,7 +1,6 @@
 -- The run of a document, as it is passed between calls.
 use Rattle.std.specs.Prelude.{◌≡◌, ◌≤◌, ℕ, List, length}
 use Rattle.region_table.specs.Program.{ProgramParts}
-use Rattle.message_net.specs.declared.event.Event.{Event}
 use Rattle.dn_machine.specs.declared.record.RunRecord.{RunRecord}
 use Rattle.dn_machine.specs.Settings.{IsRunOn}
 use Rattle.run_replay.specs.declared.trace.Trace.{Trace}

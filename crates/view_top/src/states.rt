@@ -69,7 +69,10 @@ fn state_in(
         return refused_words(alloc);
     }
     let located = places_in(alloc, trace.text.as_slice())?;
-    state_before(alloc, options, trace, &located.places, checked)
+    let shown = state_before(alloc, options, trace, &located.places, checked);
+    // for the prover alone: one call drops the names and the program, in place of the drops of all their parts at each exit
+    drop(located);
+    shown
 }
 
 /// The state before an event of a document. Only those before it need be events of a run.
