@@ -17,7 +17,7 @@ use Rattle.effect_checker.specs.declared.fault.CheckFault.TheVariants.{PlainConf
 use Rattle.run_report.specs.declared.refusal.Refusal as refusal
 use Rattle.run_report.specs.Refusal.{refusal_of}
 use Rattle.dn_top.specs.declared.output.Output.{Output}
-use Rattle.front_end.specs.Texts.{HasProgram, HasChecked, IsNoProgram, IsInConflict, IsUnfit}
+use Rattle.run_report.specs.Texts.{HasProgram, HasChecked, IsNoProgram, IsInConflict, IsUnfit}
 
 -- ---- the least conflict
 

@@ -21,7 +21,7 @@ use Rattle.run_replay.proofs.UnderWay.{one-replay}
 use Rattle.command_words.specs.declared.options.Options.{Options}
 use Rattle.dn_top.specs.declared.output.Output.{Output}
 use Rattle.dn_top.specs.Answers.{IsReplayed, IsRefusedDocument}
-use Rattle.front_end.specs.Texts.{HasChecked, IsUnfit}
+use Rattle.run_report.specs.Texts.{HasChecked, IsUnfit}
 use Rattle.dn_top.specs.Runs.{output_of_run, reported}
 use Rattle.dn_top.specs.Documents.{HasTrace, IsNoDocument, IsReplayIn, IsReplayedRun, IsNoRun, IsTracedRun, refused_by, shape_told, trace_of}
 use Rattle.dn_top.proofs.OneRun.{one-record, one-run}

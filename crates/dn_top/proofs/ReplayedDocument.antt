@@ -6,10 +6,10 @@ use Rattle.effect_checker.specs.Checked.{IsChecked}
 use Rattle.run_replay.specs.declared.trace.Trace.{Trace}
 use Rattle.run_replay.specs.Document.{IsDocument}
 use Rattle.dn_top.specs.declared.output.Output.{Output}
-use Rattle.front_end.specs.declared.programs.Stop.{Stop}
-use Rattle.front_end.specs.declared.programs.Stop.TheVariants.{Refused, Memory}
+use Rattle.run_report.specs.declared.programs.Stop.{Stop}
+use Rattle.run_report.specs.declared.programs.Stop.TheVariants.{Refused, Memory}
 use Rattle.dn_top.specs.Answers.{IsReplayed, IsRefusedDocument}
-use Rattle.front_end.specs.Texts.{IsStop}
+use Rattle.run_report.specs.Texts.{IsStop}
 use Rattle.dn_top.specs.Documents.{IsReplayedRun, IsNoRun}
 
 module _ (document text : List ℕ) (t : Trace) (P : ProgramParts) where

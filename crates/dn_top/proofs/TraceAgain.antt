@@ -6,7 +6,7 @@ use Rattle.run_replay.specs.declared.replaying.Replayed.TheVariants.{Complete}
 use Rattle.command_words.specs.declared.options.Options.{Options}
 use Rattle.dn_top.specs.declared.output.Output.{Output}
 use Rattle.dn_top.specs.Answers.{IsReplayed}
-use Rattle.front_end.specs.Texts.{HasChecked}
+use Rattle.run_report.specs.Texts.{HasChecked}
 use Rattle.dn_top.specs.Runs.{IsPrintedRun, IsRunFor, output_of_run, reported}
 use Rattle.dn_top.specs.Documents.{IsTracedRun, IsReplayIn, IsReplayedRun, trace_of}
 use Rattle.dn_top.proofs.OneRun.{one-run}

@@ -18,9 +18,9 @@ use Rattle.flat_machine.specs.Ending.{flat_end}
 use Rattle.run_report.specs.Answer.{answer_of}
 use Rattle.run_report.specs.Grants.{grant_lines}
 use Rattle.run_report.specs.Summary.{checked_of}
-use Rattle.front_end.specs.declared.programs.Stop.{Stop}
-use Rattle.front_end.specs.declared.programs.Stop as stop
-use Rattle.front_end.specs.Texts.{HasProgram, HasChecked, IsNoProgram, IsUnfit}
+use Rattle.run_report.specs.declared.programs.Stop.{Stop}
+use Rattle.run_report.specs.declared.programs.Stop as stop
+use Rattle.run_report.specs.Texts.{HasProgram, HasChecked, IsNoProgram, IsUnfit}
 use Rattle.command_words.specs.declared.options.Mode.{Mode}
 use Rattle.command_words.specs.declared.options.Mode as mode
 use Rattle.command_words.specs.declared.options.Options.{Options}

@@ -4,7 +4,7 @@ ghost use Rattle.run_replay.specs.declared.refusal.TraceRefusal.TheVariants.{Fau
 ghost use Rattle.run_replay.specs.Document.{IsDocument, IsTrace, document_of};
 ghost use Rattle.run_replay.specs.Refusal.{refusal_text};
 ghost use Rattle.dn_top.specs.Answers.{IsRefusedDocument, IsReplayed};
-ghost use Rattle.front_end.specs.Texts.{IsStop};
+ghost use Rattle.run_report.specs.Texts.{IsStop};
 ghost use Rattle.dn_top.specs.Documents.{IsNoDocument, IsNoRun, IsReplayedRun, IsRunTold, shape_told, sizes_of, trace_of};
 ghost use Rattle.dn_top.specs.Runs.{output_of_run, IsPrintable};
 
@@ -14,12 +14,12 @@ use command_words::Options;
 use dn_base::{Memory, Sequence, Shape};
 use dn_machine::RunRecord;
 use effect_checker::Checked;
-use front_end::{Stop, checked_of};
 use region_table::{Program, a_program_is_well_formed};
 use run_replay::{
     Replayed, Trace, TraceFault, TraceRefusal, TraceShape, read_trace, replay, trace_line,
     trace_text,
 };
+use run_report::{Stop, checked_of};
 use std::alloc::Global;
 
 /// The machine's size and the fuel that the options ask for, as a document tells them.

@@ -2,7 +2,7 @@ ghost use Rattle.std.specs.Prelude.{◌≡◌, ◌≢◌, ℕ, List, None, IfOk,
 ghost use Rattle.command_words.specs.declared.options.Options.{Options as OptionsOf};
 ghost use Rattle.command_words.specs.Command.{OptionsInRange};
 ghost use Rattle.dn_top.specs.Answers.{IsAnswer, answered, most_read};
-ghost use Rattle.front_end.specs.Texts.{usage_line};
+ghost use Rattle.run_report.specs.Texts.{usage_line};
 ghost use Rattle.program_outside.specs.Outside.{GaveAtMost, IsUntouched, devices, sink_at, source_at};
 ghost use Rattle.dn_top.specs.Runs.{with_one_worker};
 ghost use Rattle.dn_top.specs.Serving.{without_run, IsDoneBy, IsWritten, IsReplied, status_of_read};

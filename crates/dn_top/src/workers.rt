@@ -3,7 +3,7 @@ ghost use Rattle.std.specs.Prelude.{◌≢◌, All, IfOk, IfErr};
 ghost use Rattle.command_words.specs.Command.{OptionsInRange};
 ghost use Rattle.run_replay.specs.Document.{FitsDocument, IsTrace};
 ghost use Rattle.dn_top.specs.Answers.{IsRunOfText};
-ghost use Rattle.front_end.specs.Texts.{IsStop, IsUnfit};
+ghost use Rattle.run_report.specs.Texts.{IsStop, IsUnfit};
 ghost use Rattle.dn_top.specs.Documents.{trace_of};
 ghost use Rattle.dn_top.specs.Runs.{IsPrintable, IsRunFor};
 
@@ -12,8 +12,8 @@ use command_words::Options;
 use dn_base::{Gate, Memory};
 use dn_machine::{Machine, RunRecord, a_machine_is_kept};
 use effect_checker::Checked;
-use front_end::{Stop, checked_of};
 use host_workers::run_workers;
+use run_report::{Stop, checked_of};
 use std::alloc::Global;
 use std::sync::Wait;
 use std::thread::Threads;

@@ -1,7 +1,7 @@
 -- What a call of the program reads and writes, and what its status says of that.
 use Rattle.std.specs.Prelude.{◌≡◌, ◌⊎◌, ℕ, List, Option, Some, None}
 use Rattle.std.specs.declared.process.ExitCode.{ExitCode}
-use Rattle.front_end.specs.Texts.{usage_line}
+use Rattle.run_report.specs.Texts.{usage_line}
 use Rattle.program_outside.specs.Outside.{SinkState, Devices, SourceFailed, SinkFailed, GaveAtMost, IsUntouched, IsRead, Delivered, TookFront}
 use Rattle.referee_top.specs.declared.answering.Reply.{Reply}
 use Rattle.referee_top.specs.declared.mode.RefereeMode.{RefereeMode}

@@ -1,4 +1,5 @@
-pub mod Status
 pub mod Answers
+pub mod Command
 pub mod Kept
 pub mod Serving
+pub mod Status

@@ -3,7 +3,7 @@ use Rattle.std.specs.Prelude.{◌≡◌, ◌⊎◌, ℕ, List, Option, Some, Non
 use Rattle.std.specs.declared.process.ExitCode.{ExitCode}
 use Rattle.program_outside.specs.Outside.{SinkState, Devices, SourceFailed, SinkFailed, GaveAtMost, IsUntouched, IsRead, Delivered, TookFront}
 use Rattle.view_top.specs.declared.answering.Output.{Output}
-use Rattle.view_words.specs.declared.options.View.{View}
+use Rattle.view_top.specs.declared.options.View.{View}
 use Rattle.view_top.specs.declared.status.ViewStatus.{ViewStatus}
 use Rattle.view_top.specs.declared.status.ViewStatus as status
 use Rattle.view_top.specs.Answers.{usage, IsAnswer}

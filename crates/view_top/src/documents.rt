@@ -3,7 +3,7 @@ ghost use Rattle.std.specs.Prelude.{◌≡◌, IfOk, IfErr, Ok};
 ghost use Rattle.rv_assembler.specs.Source.{source};
 ghost use Rattle.text_places.specs.Places.{text_places};
 ghost use Rattle.run_replay.specs.Document.{IsTrace};
-ghost use Rattle.front_end.specs.Texts.{IsStop};
+ghost use Rattle.run_report.specs.Texts.{IsStop};
 ghost use Rattle.dn_top.specs.Answers.{IsRefusedDocument};
 ghost use Rattle.dn_top.specs.Documents.{shape_told, IsNoRun};
 ghost use Rattle.view_top.specs.Answers.{HasKeptRun};
@@ -12,8 +12,8 @@ ghost use Rattle.view_top.specs.Kept.{kept_run_of, IsFit, IsKeptRun, IsViewable}
 use dn_base::{Memory, Sequence, Shape};
 use dn_top::{RunRecord, run_told, shape_told, trace_in};
 use effect_checker::Checked;
-use front_end::{Stop, checked_of};
 use run_replay::{Trace, TraceShape};
+use run_report::{Stop, checked_of};
 use rv_assembler::SourceFault;
 use std::alloc::Global;
 use text_places::{Located, located_program};

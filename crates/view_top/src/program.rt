@@ -1,6 +1,6 @@
 ghost use Rattle.std.specs.Prelude.{map, string_bytes};
 ghost use Rattle.program_outside.specs.Outside.{devices};
-ghost use Rattle.view_words.specs.Command.{view_of};
+ghost use Rattle.view_top.specs.Command.{view_of};
 ghost use Rattle.view_top.specs.Serving.{HasEnded};
 ghost use Rattle.view_top.specs.Status.{IsViewExit};
 

@@ -1,17 +1,17 @@
 ghost use Rattle.std.specs.Prelude.{ℕ, List, Some, IfOk, map, string_bytes};
 ghost use Rattle.program_outside.specs.Outside.{devices, sink_at};
-ghost use Rattle.view_words.specs.declared.options.View.{View as ViewOf};
+ghost use Rattle.view_top.specs.declared.options.View.{View as ViewOf};
 ghost use Rattle.view_top.specs.Answers.{usage, IsAnswer};
-ghost use Rattle.view_words.specs.Command.{view_of, IsViewInRange};
+ghost use Rattle.view_top.specs.Command.{view_of, IsViewInRange};
 ghost use Rattle.view_top.specs.Serving.{IsReplied, IsWritten, Serves};
 
 use crate::answering::{Output, answer};
 use crate::status::ViewStatus;
+use crate::{View, read_words};
 use command_words::WordsFault;
 use dn_base::{MOST_OF_DOCUMENT, Memory, Sink, Source};
 use program_outside::{ReadError, read_text, write_text};
 use std::alloc::Global;
-use view_words::{View, read_words};
 
 /// Writes the bytes, and tells this status, or `WriteFault` where the sink failed.
 fn finish<K: Sink>(sink: &mut K, bytes: &[u8], status: ViewStatus) -> ViewStatus
