@@ -31,9 +31,10 @@ use Rattle.run_report.specs.Texts.{HasChecked}
 use Rattle.program_outside.specs.Outside.{Devices, Took}
 use Rattle.dn_top.specs.declared.output.Output.{Output}
 use Rattle.dn_top.specs.Answers.{IsOutcome, done_in}
-use Rattle.dn_top.specs.Documents.{HasTrace, shape_told}
+use Rattle.checked_runs.specs.Documents.{HasTrace, shape_told}
 use Rattle.dn_top.specs.Laws.{Call}
-use Rattle.dn_top.specs.Runs.{HasFlatRun, IsRunOf, reported, shape_for}
+use Rattle.checked_runs.specs.Runs.{HasFlatRun, IsRunOf, reported}
+use Rattle.dn_top.specs.Runs.{shape_for}
 use Rattle.dn_top.specs.Serving.{HasDone, ForText, text_to_answer}
 use Rattle.referee_top.specs.declared.answering.Reply.{Reply}
 use Rattle.referee_top.specs.declared.mode.RefereeMode as referee

@@ -26,9 +26,11 @@ use Rattle.command_words.specs.declared.options.Options.{Options}
 use Rattle.command_words.specs.Command.{OptionsInRange}
 use Rattle.run_report.specs.Texts.{HasProgram, HasChecked, IsUnfit}
 use Rattle.dn_top.specs.declared.output.Output.{Output}
-use Rattle.dn_top.specs.Runs.{IsPrintedRun, IsTimedRun, shape_for, ticks_for, reported, summed_up}
-use Rattle.dn_top.specs.Documents.{IsTracedRun, IsReplayIn, IsNoRun, shape_told, trace_of, refused_by}
-use Rattle.dn_top.specs.Answers.{IsAnswer, IsFlatRun, IsListing, IsProof, IsReplayed, IsRefusedDocument, answered, done_in, refused_in}
+use Rattle.checked_runs.specs.Runs.{reported, summed_up}
+use Rattle.dn_top.specs.Runs.{IsPrintedRun, IsTimedRun, shape_for, ticks_for}
+use Rattle.checked_runs.specs.Documents.{IsReplayIn, IsNoRun, shape_told, refused_by, IsRefusedDocument}
+use Rattle.dn_top.specs.Documents.{IsTracedRun, trace_of}
+use Rattle.dn_top.specs.Answers.{IsAnswer, IsFlatRun, IsListing, IsProof, IsReplayed, answered, done_in, refused_in}
 use Rattle.explained_answer.specs.declared.line.AnswerLine as line
 use Rattle.explained_answer.specs.declared.line.AnswerLine.{AnswerLine}
 use Rattle.explained_answer.specs.declared.line.Count as count

@@ -13,7 +13,7 @@ use Rattle.rv_core.specs.declared.ending.TaskEnd.{TaskEnd}
 use Rattle.dn_machine.specs.declared.record.RunRecord.{RunRecord}
 use Rattle.run_report.specs.Answer.{answer_of}
 use Rattle.run_report.specs.Run.{all_kinds}
-use Rattle.dn_top.specs.Runs.{IsRunOf, reported}
+use Rattle.checked_runs.specs.Runs.{IsRunOf, reported}
 use Rattle.text_places.specs.declared.places.Located.{Located}
 use Rattle.explained_answer.specs.declared.line.AnswerLine as line
 use Rattle.explained_answer.specs.declared.line.AnswerLine.{AnswerLine}

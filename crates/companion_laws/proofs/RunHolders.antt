@@ -8,7 +8,7 @@ use Rattle.rv_core.specs.declared.ending.EndShown as shown
 use Rattle.rv_core.specs.declared.ending.Ending.{Ending}
 use Rattle.rv_core.specs.declared.ending.TaskEnd.{TaskEnd}
 use Rattle.dn_machine.specs.declared.record.RunRecord.{RunRecord}
-use Rattle.dn_top.specs.Runs.{IsRunOf}
+use Rattle.checked_runs.specs.Runs.{IsRunOf}
 use Rattle.companion_laws.specs.Holding.{HasHolder}
 use Rattle.companion_laws.proofs.Runs.{flat-value}
 use Rattle.companion_laws.proofs.Holders.{waits-for_holder}

@@ -23,7 +23,7 @@ use Rattle.run_report.specs.Answer.{answer_of}
 use Rattle.run_report.specs.Grants.{grant_lines}
 use Rattle.run_report.specs.Run.{all_kinds, run_text, report_of}
 use Rattle.run_report.specs.Summary.{summary_of}
-use Rattle.dn_top.specs.Runs.{IsRunOf, reported, summed_up}
+use Rattle.checked_runs.specs.Runs.{IsRunOf, reported, summed_up}
 use Rattle.text_places.specs.declared.places.Located.{Located}
 use Rattle.explained_answer.specs.declared.line.AnswerLine as line
 use Rattle.explained_answer.specs.declared.line.AnswerLine.{AnswerLine}

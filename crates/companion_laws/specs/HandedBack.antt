@@ -14,7 +14,7 @@ use Rattle.claims.specs.declared.claim.Claim.{Claim}
 use Rattle.command_words.specs.declared.options.Mode.{Mode}
 use Rattle.command_words.specs.declared.options.Mode as mode
 use Rattle.command_words.specs.declared.options.Options.{Options}
-use Rattle.dn_top.specs.Documents.{HasTrace, shape_told}
+use Rattle.checked_runs.specs.Documents.{HasTrace, shape_told}
 use Rattle.dn_top.specs.Laws.{Call, IsTextAnswered}
 use Rattle.dn_top.specs.Runs.{shape_for}
 

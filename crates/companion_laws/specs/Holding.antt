@@ -8,7 +8,7 @@ use Rattle.flat_machine.specs.Step.{Started}
 use Rattle.flat_machine.specs.Phases.{Flat}
 use Rattle.flat_machine.specs.Grants.{so_far}
 use Rattle.dn_machine.specs.declared.record.RunRecord.{RunRecord}
-use Rattle.dn_top.specs.Runs.{reported}
+use Rattle.checked_runs.specs.Runs.{reported}
 use Rattle.text_places.specs.declared.places.Located.{Located}
 use Rattle.explained_answer.specs.declared.line.AnswerLine.{AnswerLine}
 use Rattle.explained_answer.specs.AnswerLines.{answer_line}

@@ -17,7 +17,7 @@ ghost use Rattle.command_words.specs.declared.options.Options.{Options};
 ghost use Rattle.program_outside.specs.Outside.{Took};
 ghost use Rattle.run_report.specs.Texts.{HasChecked};
 ghost use Rattle.dn_top.specs.Laws.{Call};
-ghost use Rattle.dn_top.specs.Runs.{IsRunOf};
+ghost use Rattle.checked_runs.specs.Runs.{IsRunOf};
 ghost use Rattle.referee_top.specs.declared.answering.Reply.{Reply};
 ghost use Rattle.referee_top.specs.declared.mode.RefereeMode.TheVariants.{Judge};
 ghost use Rattle.referee_top.specs.Answers.{HasTold, IsAnswer, verdict_reply};

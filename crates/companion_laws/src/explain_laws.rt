@@ -19,7 +19,7 @@ ghost use Rattle.run_report.specs.Texts.{usage_line};
 ghost use Rattle.dn_top.specs.declared.output.Output.{Output};
 ghost use Rattle.dn_top.specs.Answers.{IsAnswer};
 ghost use Rattle.dn_top.specs.Laws.{Call, IsTextAnswered};
-ghost use Rattle.dn_top.specs.Runs.{IsRunOf, reported};
+ghost use Rattle.checked_runs.specs.Runs.{IsRunOf, reported};
 ghost use Rattle.explained_answer.specs.declared.explaining.Explained.{Explained};
 ghost use Rattle.explained_answer.specs.Explained.{IsLocated, HasNoConflict, IsExplained};
 ghost use Rattle.explain_top.specs.declared.answering.Output.{Output as Explanation};

@@ -31,7 +31,7 @@ use Rattle.dn_top.specs.declared.output.Output.{Output}
 use Rattle.dn_top.specs.Answers.{IsAnswer, IsProof, answered, done_in}
 use Rattle.run_report.specs.Texts.{HasChecked}
 use Rattle.dn_top.specs.Laws.{IsProvedInside, IsTameEnd, IsTameRun}
-use Rattle.dn_top.specs.Runs.{IsRunOf}
+use Rattle.checked_runs.specs.Runs.{IsRunOf}
 
 -- ---- the answer
 

@@ -1,5 +1,4 @@
 pub mod Answers
-pub mod Causes
 pub mod Documents
 pub mod ExitCodes
 pub mod Laws

@@ -18,8 +18,9 @@ use Rattle.program_outside.specs.declared.reading.ReadError.{ReadError}
 use Rattle.dn_top.specs.declared.serving.Answer.{Answer}
 use Rattle.dn_top.specs.Answers.{most_read, makes_run, runs_tasks, IsDone, IsRefusal, IsAnswer, IsOutcome}
 use Rattle.run_report.specs.Texts.{usage_line}
-use Rattle.dn_top.specs.Runs.{IsRunOf, IsRunFor}
-use Rattle.dn_top.specs.Documents.{shape_told}
+use Rattle.checked_runs.specs.Runs.{IsRunOf}
+use Rattle.dn_top.specs.Runs.{IsRunFor}
+use Rattle.checked_runs.specs.Documents.{shape_told}
 use Rattle.program_outside.specs.Outside.{SourceState, SinkState, Devices, SourceFailed, SinkFailed, GaveAtMost, IsUntouched, IsRead, IsFlushed, Took, Delivered, TookFront}
 
 -- ---- the text of a call

@@ -7,7 +7,8 @@ ghost use Rattle.run_timing.specs.Ticks.{AreWithinLimits};
 ghost use Rattle.dn_top.specs.Answers.{HasAnyRun, IsRunOfText};
 ghost use Rattle.run_report.specs.Texts.{HasChecked, IsStop, IsUnfit};
 ghost use Rattle.dn_top.specs.Documents.{trace_of};
-ghost use Rattle.dn_top.specs.Runs.{IsAnyRunFor, IsPrintable, IsRunFor, IsTimedFor, with_one_worker, output_of_run, reported, shape_for, summed_up, ticks_for};
+ghost use Rattle.checked_runs.specs.Runs.{IsPrintable, reported, summed_up};
+ghost use Rattle.dn_top.specs.Runs.{IsAnyRunFor, IsRunFor, IsTimedFor, with_one_worker, output_of_run, shape_for, ticks_for};
 
 use crate::output::Output;
 use command_words::Options;

@@ -5,7 +5,8 @@ ghost use Rattle.run_replay.specs.Document.{FitsDocument, IsTrace};
 ghost use Rattle.dn_top.specs.Answers.{IsRunOfText};
 ghost use Rattle.run_report.specs.Texts.{IsStop, IsUnfit};
 ghost use Rattle.dn_top.specs.Documents.{trace_of};
-ghost use Rattle.dn_top.specs.Runs.{IsPrintable, IsRunFor};
+ghost use Rattle.checked_runs.specs.Runs.{IsPrintable};
+ghost use Rattle.dn_top.specs.Runs.{IsRunFor};
 
 use crate::runs::{has_each_kind, shape_of};
 use command_words::Options;

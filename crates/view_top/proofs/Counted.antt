@@ -6,7 +6,7 @@ use Rattle.run_account.specs.Tallies.{Tallies}
 use Rattle.run_account.specs.declared.form.Form.{Form}
 use Rattle.run_account.specs.Forms.{account_text}
 use Rattle.run_report.specs.Texts.{HasProgram}
-use Rattle.dn_top.specs.Documents.{shape_told}
+use Rattle.checked_runs.specs.Documents.{shape_told}
 use Rattle.view_top.specs.declared.answering.Output.{Output}
 use Rattle.view_top.specs.declared.documents.KeptRun.{KeptRun}
 use Rattle.view_top.specs.declared.options.AccountOptions.{AccountOptions}

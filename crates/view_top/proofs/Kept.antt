@@ -16,10 +16,9 @@ use Rattle.run_replay.specs.Document.{IsDocument}
 use Rattle.run_report.specs.declared.programs.Stop.{Stop}
 use Rattle.run_report.specs.declared.programs.Stop.TheVariants.{Refused, Memory}
 use Rattle.run_report.specs.Texts.{HasChecked, HasProgram, IsStop}
-use Rattle.dn_top.specs.Answers.{IsRefusedDocument}
-use Rattle.dn_top.specs.Documents.{shape_told, HasTrace, IsNoRun, IsRunTold}
-use Rattle.dn_top.specs.Runs.{IsPrintable}
-use Rattle.dn_top.proofs.OneProgram.{one-program}
+use Rattle.checked_runs.specs.Documents.{IsRefusedDocument, shape_told, HasTrace, IsNoRun, IsRunTold}
+use Rattle.checked_runs.specs.Runs.{IsPrintable}
+use Rattle.run_report.proofs.OneProgram.{one-program}
 use Rattle.view_top.specs.declared.answering.Output.{Output}
 use Rattle.view_top.specs.declared.documents.KeptRun.{KeptRun}
 use Rattle.view_top.specs.declared.options.StateOptions.{StateOptions}

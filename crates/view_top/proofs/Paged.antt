@@ -6,7 +6,7 @@ use Rattle.run_timing.specs.declared.timing.Timing.{Timing}
 use Rattle.page_data.specs.declared.page.Page.{Page}
 use Rattle.page_data.specs.Page.{IsPageOf}
 use Rattle.run_report.specs.Texts.{HasProgram}
-use Rattle.dn_top.specs.Documents.{shape_told}
+use Rattle.checked_runs.specs.Documents.{shape_told}
 use Rattle.view_top.specs.declared.documents.KeptRun.{KeptRun}
 use Rattle.view_top.specs.declared.options.PageOptions.{PageOptions}
 use Rattle.view_top.specs.Answers.{last_number, made, page_ticks, IsPageData, IsPageFor}

@@ -13,7 +13,7 @@ use Rattle.message_chart.specs.Picture.{svg_of}
 use Rattle.run_chart.specs.declared.drawing.Range.{Range}
 use Rattle.run_chart.specs.Charts.{IsChartOf}
 use Rattle.run_report.specs.Texts.{HasProgram}
-use Rattle.dn_top.specs.Documents.{shape_told}
+use Rattle.checked_runs.specs.Documents.{shape_told}
 use Rattle.view_top.specs.declared.answering.Output.{Output}
 use Rattle.view_top.specs.declared.documents.KeptRun.{KeptRun}
 use Rattle.view_top.specs.declared.options.ChartOptions.{ChartOptions}

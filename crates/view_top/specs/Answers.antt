@@ -30,9 +30,8 @@ use Rattle.state_text.specs.Reached.{IsAnswerOf}
 use Rattle.page_data.specs.declared.page.Page.{Page}
 use Rattle.page_data.specs.Page.{IsPageOf}
 use Rattle.run_report.specs.Texts.{HasChecked, IsUnfit, usage_line}
-use Rattle.dn_top.specs.Answers.{IsRefusedDocument}
-use Rattle.dn_top.specs.Documents.{HasTrace, IsNoDocument, IsRunTold, shape_told}
-use Rattle.dn_top.specs.Runs.{reported}
+use Rattle.checked_runs.specs.Documents.{IsRefusedDocument, HasTrace, IsNoDocument, IsRunTold, shape_told}
+use Rattle.checked_runs.specs.Runs.{reported}
 use Rattle.view_top.specs.declared.answering.Output.{Output}
 use Rattle.view_top.specs.declared.options.View.{View}
 use Rattle.view_top.specs.declared.options.View.TheVariants as view

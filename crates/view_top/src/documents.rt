@@ -4,13 +4,13 @@ ghost use Rattle.rv_assembler.specs.Source.{source};
 ghost use Rattle.text_places.specs.Places.{text_places};
 ghost use Rattle.run_replay.specs.Document.{IsTrace};
 ghost use Rattle.run_report.specs.Texts.{IsStop};
-ghost use Rattle.dn_top.specs.Answers.{IsRefusedDocument};
-ghost use Rattle.dn_top.specs.Documents.{shape_told, IsNoRun};
+ghost use Rattle.checked_runs.specs.Documents.{IsRefusedDocument, shape_told, IsNoRun};
 ghost use Rattle.view_top.specs.Answers.{HasKeptRun};
 ghost use Rattle.view_top.specs.Kept.{kept_run_of, IsFit, IsKeptRun, IsViewable};
 
+use checked_runs::{run_told, shape_told, trace_in};
 use dn_base::{Memory, Sequence, Shape};
-use dn_top::{RunRecord, run_told, shape_told, trace_in};
+use dn_machine::RunRecord;
 use effect_checker::Checked;
 use run_replay::{Trace, TraceShape};
 use run_report::{Stop, checked_of};

@@ -13,9 +13,9 @@ use Rattle.run_replay.specs.declared.trace.Trace.{Trace}
 use Rattle.run_replay.specs.declared.replaying.Replayed.{Replayed}
 use Rattle.run_replay.specs.declared.replaying.Replayed.TheVariants.{Complete}
 use Rattle.run_replay.specs.Replay.{IsReplayOf}
-use Rattle.dn_top.specs.Runs.{IsRunOf, IsPrintable}
-use Rattle.dn_top.specs.Documents.{IsReplayIn, shape_told}
-use Rattle.dn_top.proofs.RunOf.{run-of, can-print}
+use Rattle.checked_runs.specs.Runs.{IsRunOf, IsPrintable}
+use Rattle.checked_runs.specs.Documents.{IsReplayIn, shape_told}
+use Rattle.checked_runs.proofs.RunOf.{run-of, can-print}
 
 -- the replay of a shape and events that are the document's
 pub replay-at : (P Q : ProgramParts) (t : Trace) (s : Shape) (events : List Event) (r : Replayed) → Q ≡ P → s ≡ shape_told Q t.shape → events ≡ t.events

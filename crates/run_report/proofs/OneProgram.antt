@@ -16,7 +16,6 @@ use Rattle.effect_checker.specs.declared.fault.CheckFault.{CheckFault}
 use Rattle.effect_checker.specs.declared.fault.CheckFault.TheVariants.{PlainConflict, GuardedPlain, TwoLocks}
 use Rattle.run_report.specs.declared.refusal.Refusal as refusal
 use Rattle.run_report.specs.Refusal.{refusal_of}
-use Rattle.dn_top.specs.declared.output.Output.{Output}
 use Rattle.run_report.specs.Texts.{HasProgram, HasChecked, IsNoProgram, IsInConflict, IsUnfit}
 
 -- ---- the least conflict
@@ -138,13 +137,13 @@ unfit-one text l m (inr is) (inr also) =
     conflict-one is.program l m is.holds (subst (λ (P : ProgramParts). IsInConflict P m) same also.holds)
 
 -- what holds of a text's program in one way only
-pub program-one : (text : List ℕ) (Holds : ProgramParts → Output → Type 0) (out other : Output) → ((P : ProgramParts) → Holds P out → Holds P other → out ≡ other)
+pub program-one : {X : Type 0} (text : List ℕ) (Holds : ProgramParts → X → Type 0) (out other : X) → ((P : ProgramParts) → Holds P out → Holds P other → out ≡ other)
     → HasProgram text (λ P. Holds P out) → HasProgram text (λ P. Holds P other) → out ≡ other
 program-one text Holds out other one is also =
     one is.program is.holds
     (subst (λ (P : ProgramParts). Holds P other) (one-program text also.program is.program also.is is.is) also.holds)
 
-pub checked-one : (text : List ℕ) (Holds : ProgramParts → Output → Type 0) (out other : Output) → ((P : ProgramParts) → Holds P out → Holds P other → out ≡ other)
+pub checked-one : {X : Type 0} (text : List ℕ) (Holds : ProgramParts → X → Type 0) (out other : X) → ((P : ProgramParts) → Holds P out → Holds P other → out ≡ other)
     → HasChecked text (λ P. Holds P out) → HasChecked text (λ P. Holds P other) → out ≡ other
 checked-one text Holds out other one is also =
     one is.program is.holds

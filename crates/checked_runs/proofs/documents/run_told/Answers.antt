@@ -1,9 +1,9 @@
 use Rattle.std.proofs.Common.{refl, subst}
 use Rattle.region_table.specs.Program.{IsProgram}
 use Rattle.run_replay.specs.declared.replaying.Replayed.{Replayed}
-use Rattle.dn_top.specs.Documents.{IsReplayIn}
-use Rattle.dn_top.proofs.ReplayedRun.{replay-at, run-again, prints-again}
-use Rattle.dn_top.proofs.documents.run_told.Goals as goal
+use Rattle.checked_runs.specs.Documents.{IsReplayIn}
+use Rattle.checked_runs.proofs.ReplayedRun.{replay-at, run-again, prints-again}
+use Rattle.checked_runs.proofs.documents.run_told.Goals as goal
 
 pub returns-in-Complete-clause-told : goal.returns-in-Complete-clause-told
 returns-in-Complete-clause-told c =

@@ -10,7 +10,7 @@ use Rattle.flat_machine.specs.Phases.{Flat, finished_by, has_finished}
 use Rattle.flat_machine.specs.Grants.{so_far, grants_are_whole}
 use Rattle.flat_machine.specs.Ending.{flat_end, whole_only, flat_end_of}
 use Rattle.flat_machine.proofs.CauseLemmas.{run-out_of_fuel, run-held_up, run-past, run-stuck}
-use Rattle.dn_top.specs.Causes.{IsCaused}
+use Rattle.checked_runs.specs.Causes.{IsCaused}
 
 -- a run with a value has reached a state after which no grant is left
 record HasReached (P : ProgramParts) (fuel : ℕ) (gs : List Grant) : Type 0 where
