@@ -13,6 +13,7 @@ mod port;
 mod row;
 
 pub use bank::{BankActor, BankIn, BankOut, Handled};
+pub use grant_log::Posted;
 pub use hall::{Hall, HallEnd, HallParts, Pass};
 pub use keeper::{KeeperActor, KeeperHandled, KeeperIn, KeeperOut};
 pub use laws::{
