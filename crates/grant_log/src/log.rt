@@ -46,7 +46,6 @@ fn in_order(mut entries: Vec<Stamped>) -> Result<Vec<Stamped>, Memory>
 /// The entries of all logs, sorted by their stamps, and those with the same stamp by their actors.
 ///
 /// A log has the notes of one actor, with rising stamps. Every actor has at most one log.
-/// log at most.
 ///
 /// # Errors
 /// `Memory` where there is no room for the list.

@@ -29,7 +29,6 @@ pub record IsRoundFrom (S : State) (r : Round) : Type 0 where
 
 -- a round of the workers of a machine: a run from each state that differs from the machine's only in the order of mails, with
 -- at least one event if any may come
--- one may come
 pub record IsRoundBy (m : Made) (r : Round) : Type 0 where
   pub runs : (S : State) → IsReached m.state.setting S → IsReordered S m.state → IsRoundFrom S r
   pub setting : r.machine.state.setting ≡ m.state.setting

@@ -1,0 +1,124 @@
+"""Calls of the programs: their words, their exit codes, the stored runs, standard error, and which build of a program answers."""
+import os
+import pathlib
+import shutil
+import tempfile
+
+import reference
+from .counting import check, programs, run, text_of
+
+
+def as_the_reference(words, example):
+    """That the answers are those of the second program."""
+    text = text_of(example)
+    status, lines = reference.answer(words, text.decode())
+    for program in programs("denovo"):
+        ran = run(program + words, text)
+        wanted = "".join(line + "\n" for line in lines).encode()
+        check(f"{program[0]} {' '.join(words)} < {example}", (ran.returncode, ran.stdout) == (status, wanted),
+              f"exit code {ran.returncode}, not {status}, or other output")
+    return status, lines
+
+
+def words_are_handed_on():
+    """Each of the words changes the answer, the first and the last among them."""
+    for example, words in (("locked-counter", ["--seed", "7", "--fuel", "30"]), ("stencil", ["--sets", "1", "--ways", "1"])):
+        answers = [as_the_reference(some, example) for some in (words, words[2:], words[:-2], [])]
+        check(f"the words change the answer to {example}", all(a != b for i, a in enumerate(answers) for b in answers[:i]))
+
+
+def stored_runs():
+    """The runs of tools/stored_runs: each folder is PROGRAM-NAME, with a word on each line of args, the bytes of stdin and stdout, and the
+    exit code in status. The gate itself has one such run for each program."""
+    for folder in sorted(pathlib.Path("tools/stored_runs").iterdir()):
+        part = {it.name: it.read_bytes() for it in folder.iterdir()}
+        for program in programs(folder.name.partition("-")[0]):
+            ran = run(program + part.get("args", b"").decode().splitlines(), part["stdin"])
+            wanted = int(part.get("status", b"0")), part["stdout"]
+            check(f"{program[0]}: the stored run {folder.name}", (ran.returncode, ran.stdout) == wanted, ran.returncode)
+
+
+def every_exit_code_comes():
+    for words, example, status in (
+            ([], "stale-copy", 0), ([], "trap", 3), ([], "endless", 4), (["--mode", "flat"], "endless", 4)):
+        check(f"exit code {status} of {example}", as_the_reference(words, example)[0] == status)
+    seeds = [seed for seed in range(1, 20) if reference.answer(["--seed", str(seed)], text_of("crossed-locks").decode())[0] == 5]
+    check("exit code 5 of crossed-locks", as_the_reference(["--seed", str(seeds[0])], "crossed-locks")[0] == 5)
+    for name in ("denovo", "view", "referee"):
+        for program in programs(name):
+            label = program[0]
+            ran = run(program + ["--help"])
+            check(f"{label}: exit code 1", (ran.returncode, ran.stdout) == (1, b"refused usage\n"))
+            folder = os.open("/", os.O_RDONLY)
+            ran = run(program, folder)
+            os.close(folder)
+            check(f"{label}: exit code 6, of a folder", (ran.returncode, ran.stdout) == (6, b""))
+            ran = run(program + [b"--first=\xff"])
+            check(f"{label}: exit code 9, of words that aren't UTF-8", (ran.returncode, ran.stdout) == (9, b""))
+            ran = run(["sh", "-c", '"$@" >&-', "sh", *program], text_of("trap"))
+            check(f"{label}: exit code 7, of a closed standard output", ran.returncode == 7, ran.returncode)
+            with open("/dev/full", "wb") as full:
+                ran = run(program, text_of("trap"), stdout=full)
+            check(f"{label}: exit code 7, of a full device", ran.returncode == 7, ran.returncode)
+    for program in programs("denovo"):
+        ran = run(program, text_of("conflict"))
+        wanted = b"refused check phase 0 plain-conflict"
+        check(f"{program[0]}: exit code 2", ran.returncode == 2 and ran.stdout.startswith(wanted), ran.stdout)
+    for program in programs("view"):
+        for mode in ("chart", "account", "state", "page"):
+            ran = run(program + ["--mode", mode], b"no document\n")
+            check(f"{program[0]} --mode {mode}: exit code 2", (ran.returncode, ran.stdout) == (2, b"refused trace head\n"))
+
+
+def standard_error_helps():
+    """What stands on standard error, where the rest is the program's own."""
+    ran = run(["./denovo", "--sed", "3"])
+    check("an unknown word", ran.stdout == b"refused usage\n" and b"--seed" in ran.stderr)
+    ran = run(["./denovo"], b"")
+    check("an empty text", b"standard input was empty" in ran.stderr, ran.stderr)
+    ran = run(["./view"], b"refused source 1 unknown-word\n")
+    check("a view of a refusal", b"its input is a refusal: refused source 1 unknown-word" in ran.stderr, ran.stderr)
+    document = run(["./denovo", "--mode", "trace"], text_of("store-five")).stdout.replace(b"\ni 0\n", b"\na 0\n", 1)
+    for words in (["./denovo", "--mode", "replay"], ["./view"]):
+        ran = run(words, document)
+        check(f"{words[0]} of a document without a run", ran.stdout == b"refused trace not-enabled 0\n" and b"./view --mode state --event N" in ran.stderr, ran.stderr)
+    ran = run(["./view", "--mode", "state", "--event", "1"], document)
+    check("a state that isn't reached", ran.returncode == 3 and b"docs/STATE.md" in ran.stderr and b"trapped" not in ran.stderr, ran.stderr)
+    for example, words in (("conflict", b"Conflicts"), ("trap", b"Traps"), ("endless", b"Traps")):
+        check(f"the page on {example}", words in run(["./denovo"], text_of(example)).stderr)
+    for example, words in (("conflict", []), ("trap", []), ("endless", []), ("crossed-locks", ["--seed", "1"])):
+        wanted = " ".join(["./denovo", *words, "< TEXT | ./explain TEXT"]).encode()
+        check(f"explain is named behind {example}", wanted in run(["./denovo", *words], text_of(example)).stderr)
+    check("and behind unknown words", b"./explain TEXT" in run(["./denovo", "--sed", "3"]).stderr)
+    document = run(["./denovo", "--mode", "trace"], text_of("store-five")).stdout
+    for words in ([], ["--mode", "check"], ["--mode", "replay"]):
+        ran = run(["./denovo", *words], document[:-4])
+        named = b"'./denovo --mode replay' takes one" in ran.stderr
+        check(f"a document, {' '.join(words)}: where it belongs is said unless it is there", ran.returncode == 2 and named == (words[1:] != ["replay"]), ran.stderr)
+    slow = run(["bash", "-c", "{ head -c 40; sleep 4; cat; } < examples/store-five.s | ./denovo"])
+    check("a pipe from a slow program", slow.stdout == run(["./denovo"], text_of("store-five")).stdout and slow.returncode == 0)
+    with tempfile.TemporaryDirectory() as room:
+        run(["./denovo"], text_of("trap"), env={**os.environ, "TMPDIR": room})
+        check("no file is left", not os.listdir(room), os.listdir(room))
+
+
+def proved_programs_are_used_where_they_are_those_of_the_sources():
+    def which(folder):
+        return run([f"{folder}/tools/launch", "--which", "denovo"]).stdout.decode().strip()
+
+    check("the proved program is used", which(".") == "proved")
+    with tempfile.TemporaryDirectory() as room:
+        copy = pathlib.Path(room, "copy")
+        tracked = run(["git", "ls-files", "crates.txt", "tools", "crates/*/src/*", "crates/*/specs/*"]).stdout.decode().split()
+        for name in tracked + ["crates/denovo/out/denovo", "crates/denovo/out/denovo.made-of"]:
+            (copy / name).parent.mkdir(parents=True, exist_ok=True)
+            shutil.copy(name, copy / name)
+        check("and in a copy of the folder", which(copy) == "proved")
+        for name in ("crates/dn_base/specs/Lib.antt", "crates/dn_base/src/lib.rt", "crates.txt"):
+            before = (copy / name).read_bytes()
+            (copy / name).write_bytes(before + b"\n")
+            check(f"and not where {name} differs in a byte", which(copy) == "none")
+            (copy / name).write_bytes(before)
+        check("and where a file was only touched", which(copy) == "proved")
+        (copy / "crates/denovo/out/denovo").write_bytes(b"#!/bin/sh\n")
+        check("and not where another program stands in its place", which(copy) == "none")

@@ -1,0 +1,200 @@
+"""Claims of other simulators: those of runs agree, those that are changed are judged as tools/reference.py judges them, and bytes that are
+no claim are refused."""
+import functools
+import pathlib
+import re
+import sys
+
+import reference
+from .counting import KIND, check, programs, run, text_of
+
+
+def counters(cores, locks):
+    """A text whose tasks double counters and add to them, each counter under its lock: what they come to shows the order of the grants."""
+    lines = [".version 2"] + [f".region counter{lock}, {lock + 1}" for lock in range(locks)] + [f".lock guard{lock}" for lock in range(locks)]
+    lines += [".phase", f".forall 0, {cores}, count, 1, 1"] + [f".gwrites guard{lock}, counter{lock}" for lock in range(locks)]
+    lines += ["count: mv s0, a0"]
+    for lock in range(locks):
+        label = "again:" if lock == 0 else ""
+        lines += [f"{label} la t0, counter{lock}", f" li a0, {lock}", " li a7, 1", " ecall", " lw t1, 0(t0)", " add t1, t1, t1", " add t1, t1, s0",
+                  " sw t1, 0(t0)", f" li a0, {lock}", " li a7, 2", " ecall"]
+    lines += [" addi s0, s0, -1", " bnez s0, again", " li a7, 0", " ecall"]
+    return "".join(line + "\n" for line in lines).encode()
+
+
+def texts_with_locks():
+    """Twenty texts: the examples that declare a lock, and counters."""
+    found = {path.stem: path.read_bytes() for path in sorted(pathlib.Path("examples").glob("*.s")) if re.search(rb"^\.lock ", path.read_bytes(), re.M)}
+    for cores, locks in ((2, 1), (2, 2), (2, 3), (3, 1), (3, 2), (4, 3), (5, 1), (5, 2), (8, 1), (8, 3), (16, 1), (16, 2)):
+        found[f"{cores} cores and {locks} locks"] = counters(cores, locks)
+    return found
+
+
+def claim_of_run(program, seed, text):
+    """The claim of a run of denovo: its grants and its answer are what it prints, its loads those of one thread by these grants."""
+    lines = run(program + ["--seed", str(seed)], text).stdout.decode().splitlines()
+    grants = [tuple(int(word) for word in line.split()[1:]) for line in lines if line.startswith("grant ")]
+    answer = lines[:next(at for at, line in enumerate(lines) if line.startswith(("grant ", "count ")))]
+    _, loads, _ = reference.flat(reference.assemble(text.decode()), 32768, grants)
+    return reference.claim_text(text, 32768, grants, loads, answer)
+
+
+@functools.lru_cache(16)
+def verdict(claim):
+    """The exit code and the bytes that tools/reference.py says of a claim, whose text has a program."""
+    status, lines = reference.judged(claim)
+    return status, "".join(line + "\n" for line in lines).encode()
+
+
+def judges(program, document, wanted, words=()):
+    ran = run(program + list(words), document)
+    check(f"{program[0]} {' '.join(words)}: a document of {len(document)} bytes, at its end {document[-60:]}", (ran.returncode, ran.stdout) == wanted,
+          f"{ran.stdout[:200]}, not {wanted[1][:200]}")
+
+
+def claims_of_runs_agree():
+    texts = texts_with_locks()
+    check("twenty texts with locks", len(texts) == 20, len(texts))
+    for name, text in texts.items():
+        claims = [claim_of_run(programs("denovo")[0], seed, text) for seed in (range(1, 11) if KIND == "proved" else (1, 2))]
+        for claim in claims:
+            judges(programs("referee")[0], claim, (0, b"agrees\n"))
+        check(f"{name}: each claim is right by tools/reference.py", all(verdict(claim) == (0, b"agrees\n") for claim in claims))
+
+
+def parts(claim):
+    """The question of a claim, the lines of its grants, those of its loads, and its answer."""
+    grants, loads, answer = (claim.index(name) + 1 for name in (b"\ngrants ", b"\nloads ", b"\noutcome "))
+    return claim[:grants], claim[grants:loads], claim[loads:answer], claim[answer:]
+
+
+def differing(claim):
+    """Claims that are like this one, and each wrong in another way."""
+    question, grants, loads, answer = parts(claim)
+    head, *rows = grants.splitlines(True)
+    count = len(rows)
+
+    def with_grants(rows):
+        return question + b"grants %d\n" % len(rows) + b"".join(rows) + loads + answer
+
+    yield with_grants(rows[:-1])                                # a list that isn't whole
+    yield with_grants(rows + rows[-1:])                         # one that goes on
+    yield with_grants(rows[:1] + rows)                          # a lock that is held, or a core that doesn't wait
+    yield with_grants([])
+    for place in range(0, count, max(count // 3, 1)):
+        for other in (b"grant 1 0 0\n", b"grant 0 15 0\n", b"grant 0 0 31\n", b"grant 4294967295 4294967295 4294967295\n"):
+            yield with_grants(rows[:place] + [other] + rows[place + 1:])
+    number, *tasks = re.split(rb"^(?=task )", loads, flags=re.M)
+    for some in (tasks[:-1], tasks + [b"task 3 15 0\n"], tasks[::-1], [tasks[0].replace(b"task 0 ", b"task 1 ", 1)] + tasks[1:]):
+        yield question + grants + b"loads %d\n" % len(some) + b"".join(some) + answer
+    seen = [line for line in loads.splitlines(True) if not line.startswith((b"task", b"loads"))]
+    for place in {0, len(seen) // 2, len(seen) - 1} if seen else ():
+        at = -1
+        for _ in range(place + 1):
+            at = re.compile(rb"^\d+ 0x", re.M).search(loads, at + 1).start()
+        end = loads.index(b"\n", at) + 1
+        word, value = loads[at:end].split()
+        for other in (b"%d %s\n" % (int(word) + 1, value), b"%s 0x%08x\n" % (word, int(value, 16) ^ 1)):
+            yield question + grants + loads[:at] + other + loads[end:] + answer
+    task, *rest = tasks[-1].splitlines(True)
+    names, many = task.rsplit(b" ", 1)
+    shorter = [b"%s %d\n" % (names, int(many) - 1)] + rest[:-1]
+    longer = [b"%s %d\n" % (names, int(many) + 1)] + rest + [b"0 0x00000000\n"]
+    for other in ([shorter] if rest else []) + [longer]:
+        yield question + grants + number + b"".join(tasks[:-1]) + b"".join(other) + answer
+    lines = answer.splitlines(True)
+    for place in range(len(lines)):
+        yield question + grants + loads + b"".join(lines[:place])
+        yield question + grants + loads + b"".join(lines[:place] + lines[place + 1:])
+        yield question + grants + loads + b"".join(lines[:place] + [lines[place][:-2] + b"~\n"] + lines[place + 1:])
+    yield claim[:-1]
+    yield claim + b"\n"
+    yield claim + lines[-1]
+
+
+def claims_are_judged():
+    """The referee says of claims, right and wrong ones, what the judge of tools/reference.py says."""
+    program = programs("referee")[0]
+    for example in ("locked-counter", "stencil", "touched-bit", "crossed-locks", "trap", "endless"):
+        text = text_of(example)
+        claim = reference.claim(["--mode", "run", "--seed", "3"], text)
+        question, grants, loads, answer = parts(claim)
+        judges(program, claim, (0, b"agrees\n"))
+        judges(program, question + grants + b"loads none\n" + answer, (0, b"agrees\n"))
+        judges(program, question + grants, (0, claim), ["--mode", "answer"])
+        judges(program, question, (0, reference.claim(["--mode", "flat"], text)), ["--mode=least"])
+        judges(program, claim, (2, b"refused claim behind\n"), ["--mode", "answer"])
+        judges(program, question + grants, (2, b"refused claim behind\n"), ["--mode", "least"])
+        for other in differing(claim) if b"grants 0\n" not in claim else ():
+            judges(program, other, verdict(other))
+            front = b"".join(parts(other)[:2]) if b"\noutcome " in other else b""
+            if verdict(other)[1].startswith(b"differs grants"):
+                judges(program, front, verdict(other), ["--mode", "answer"])
+        for launcher in programs("referee")[1:]:
+            judges(launcher, claim, (0, b"agrees\n"))
+
+
+def claims_are_refused():
+    """At each cut of a small claim what is refused is the first that is wrong; and at the limits of numbers and texts what is beyond them."""
+    program = programs("referee")[0]
+    claim = reference.claim(["--mode", "run"], counters(2, 1))
+    question, grants, loads, answer = parts(claim)
+    front = len(question + grants)
+    step = 1 if KIND == "proved" else 37
+    for end in range(0, len(claim), step):
+        judges(program, claim[:end], verdict(claim[:end]))
+        if end < front:
+            judges(program, claim[:end], verdict(claim[:end]), ["--mode", "answer"])
+        if end < len(question):
+            judges(program, claim[:end], (2, b"refused claim head\n"), ["--mode", "least"])
+    told = re.findall(rb"\d+", grants + loads)
+    for number in {told[0], told[1], told[-1]}:
+        for other in (b"0" + number, b"4294967296", b"4294967295", b"", b"-1", b"0x1"):
+            wrong = question + (grants + loads).replace(number, other, 1) + answer
+            judges(program, wrong, verdict(wrong))
+    for fuel in (0, 1, 32767, 32768, 32769, 4294967295):
+        other = claim.replace(b"fuel 32768", b"fuel %d" % fuel, 1)
+        judges(program, other, verdict(other))
+    for size in (1048576, 1048577):
+        text = counters(2, 1)
+        text += (b"#" * 63 + b"\n") * ((size - len(text)) // 64) + b"\n" * ((size - len(text)) % 64)
+        other = reference.claim_text(text, 32768, [(0, core, 0) for core in (0, 1, 1)], None, [])
+        judges(program, other, verdict(other))
+    for text in (text_of("conflict"), b"nonsense\n"):
+        refused = run(programs("denovo")[0], text)
+        other = reference.claim_text(text, 32768, [], None, [])
+        judges(program, other, (2, refused.stdout))
+
+
+def memory_left():
+    """How many bytes of memory are free, or 0 where the system doesn't say."""
+    told = pathlib.Path("/proc/meminfo")
+    found = re.search(r"^MemAvailable: +(\d+) kB$", told.read_text(), re.M) if told.exists() else None
+    return int(found.group(1)) * 1024 if found else 0
+
+
+def the_largest_claims_are_read():
+    """Bytes as many as a claim may have are read to their end, and one more is refused. They come by a pipe, and the program holds them."""
+    program = programs("referee")[0]
+    if memory_left() < 2 ** 30:
+        print(f"programs: {program[0]}: claims of the largest size are passed over: less than 1 GiB of memory is free")
+        return
+    for size, what in ((536870912, b"head"), (536870913, b"too-large")):
+        ran = run(["bash", "-c", f'head -c {size} /dev/zero | "$@"', "bash", *program])
+        check(f"{program[0]}: {size} bytes", (ran.returncode, ran.stdout) == (2, b"refused claim %s\n" % what), ran.stdout[:200])
+
+
+def another_simulator_is_compared():
+    """docs/COMPARING.md: the example's claims agree, and with its bug switched on the referee says where."""
+    simulator = "examples/another-simulator/simulate.py"
+    program = programs("referee")[0]
+    for path in sorted(pathlib.Path("examples").glob("*.s")):
+        text = path.read_bytes()
+        refused = run(programs("denovo")[0] + ["--mode", "check"], text)
+        for seed in ("1", "7") if refused.returncode == 0 else ():
+            claim = run([sys.executable, simulator, "--seed", seed], text).stdout
+            judges(program, claim, (0, b"agrees\n"))
+    for seed in range(1, 11):
+        claim = run([sys.executable, simulator, "--seed", str(seed), "--grant-twice"], text_of("locked-counter")).stdout
+        judges(program, claim, verdict(claim))
+        check(f"{simulator} --seed {seed} --grant-twice: its bug is found", verdict(claim)[0] == 3, verdict(claim))

@@ -1,0 +1,94 @@
+"""Answers that `explain` explains, refuses or takes: the cases of tools/explained.txt, and answers of other texts."""
+import os
+import pathlib
+import re
+import tempfile
+
+import reference
+from .counting import check, programs, run
+
+
+def explained_cases():
+    """The cases of tools/explained.txt: for each its name, its text, denovo's words, and all that explain has to write. A text may be
+    the file that stands behind `< `, and `{8 x}` stands for eight times x."""
+    def grown(piece):
+        return re.sub(r"\{(\d+) (.)\}", lambda found: found[2] * int(found[1]), piece)
+
+    for case in re.split(r"^==== ", pathlib.Path("tools/explained.txt").read_text(), flags=re.M)[1:]:
+        name, rest = case.split("\n", 1)
+        text, words, output = re.split(r"^----(.*)\n", rest, flags=re.M)
+        text = pathlib.Path(text[2:-1]).read_text() if text.startswith("< ") else grown(text)
+        yield name, text, words.split(), grown(output)
+
+
+def answers_are_explained():
+    """Each case: the lines that aren't indented are denovo's answer, and explain puts the others behind them."""
+    with tempfile.TemporaryDirectory() as room:
+        for name, text, words, output in explained_cases():
+            answer = "".join(line + "\n" for line in output.splitlines() if not line.startswith("  "))
+            file = pathlib.Path(room, "a text.s")
+            file.write_text(text)
+            ran = run(programs("denovo")[0] + words, text.encode())
+            check(f"the answer to {name}", ran.stdout == answer.encode(), ran.stdout)
+            if not answer.startswith("refused ") and "list" not in words:
+                lines = reference.answer(words, text)[1]
+                check(f"the answer to {name}, by the reference", "".join(line + "\n" for line in lines) == answer)
+            ran = run(programs("explain")[0] + [str(file)], answer.encode())
+            check(f"{name}, explained", (ran.returncode, ran.stdout) == (0, output.encode()), ran.stdout)
+    line = "./denovo < examples/trap.s | ./explain examples/trap.s"
+    ran = run(["bash", "-c", line])
+    check(line, ran.returncode == 0 and b"\n  18 |  sw t1, 8(t0)\n" in ran.stdout, ran.stdout)
+
+
+def answers_of_other_texts_are_refused():
+    """The first line of a listing, or of a document, that isn't this text's is named; also where it is missing."""
+    text = ".region m, 2\n.phase\n.task 0, go, 0\ngo: li a7, 0\necall\n"
+    listing = ".region m, 2\n.phase\n.task 0, 0x00001000, 0x00000000\nlui x17, 0\naddi x17, x17, 0\necall\n"
+    head = f"denovo-trace 1\nbanks 4 sets 64 ways 4 fuel 32768\nsource {len(text)}\n{text}\nevents 2\n"
+    cases = [
+        (listing.replace("region m, 2", "region m, 3"), 1), (listing.replace("x17, 0\necall", "x17, 1\necall"), 5),
+        (listing + "ecall\n", 7), (listing[:-6], 6), (listing[:-1], 6),
+        (head.replace("banks 4", "banks 0") + "i 0\na 0\n", 2), (head.replace("task 0", "task 1") + "i 0\na 0\n", 6),
+        (head.replace(f"source {len(text)}", "source 9") + "i 0\na 0\n", 3), (head.replace("\nevents 2\n", "\nevents 02\n"), 10),
+        (head + "i 0\n", 12), (head + "i 16\na 0\n", 11), (head + "i 0\na 0\nh k 0\n", 13), ("denovo-trace 2\n", 1)]
+    with tempfile.TemporaryDirectory() as room:
+        file = pathlib.Path(room, "a text.s")
+        file.write_text(text)
+        for number, (answer, line) in enumerate(cases):
+            ran = run(programs("explain")[0] + [str(file)], answer.encode())
+            check(f"other text {number}, refused at line {line}", (ran.returncode, ran.stdout) == (2, b"refused answer %d\n" % line), ran.stdout)
+        for answer in (head + "i 0\na 0\n", "refused usage\n"):
+            ran = run(programs("explain")[0] + [str(file)], answer.encode())
+            check("such an answer is taken", (ran.returncode, ran.stdout) == (0, answer.encode()), ran.stdout)
+
+
+def answers_before_any_text_are_taken():
+    """The lines by which the words, or the form of a document, are refused: also for a text that is refused itself."""
+    taken = ("refused usage\n", "refused trace too-large\n", "refused trace head\n", "refused trace event 3\n", "refused trace rest\n")
+    other = ("refused trace incomplete\n", "refused trace not-enabled 3\n", "outcome done\n", "refused usage\nrefused usage\n", "refused usage")
+    with tempfile.TemporaryDirectory() as room:
+        file = pathlib.Path(room, "a text.s")
+        for text in ("addi t0, t1, @\n", pathlib.Path("examples/conflict.s").read_text()):
+            file.write_text(text)
+            for answer in taken + other:
+                ran = run(programs("explain")[0] + [str(file)], answer.encode())
+                wanted = (0, answer.encode()) if answer in taken else (2, b"refused answer 1\n")
+                check(f"{answer!r} to a refused text", (ran.returncode, ran.stdout) == wanted, ran.stdout)
+
+
+def every_exit_code_of_explain_comes():
+    for program in programs("explain"):
+        label, text = program[0], "examples/trap.s"
+        for words, stdin, status, output in (
+                (["--help"], b"", 1, b"refused usage\n"), ([], b"", 1, b"refused usage\n"),
+                ([text, text], b"", 1, b"refused usage\n"), ([text], b"outcome dne\n", 2, b"refused answer 1\n"),
+                (["examples/conflict.s"], b"outcome done\n", 2, b"refused answer 1\n"),
+                (["no such file"], b"", 6, b""), (["examples"], b"", 6, b""), ([b"\xff"], b"", 9, b""), (["--", text], b"", 0, b"")):
+            ran = run(program + words, stdin)
+            check(f"{label} {words}: exit code {status}", (ran.returncode, ran.stdout) == (status, output), (ran.returncode, ran.stdout))
+        folder = os.open("/", os.O_RDONLY)
+        ran = run(program + [text], folder)
+        os.close(folder)
+        check(f"{label}: exit code 6, of a folder", (ran.returncode, ran.stdout) == (6, b""))
+        ran = run(["sh", "-c", '"$@" >&-', "sh", *program, text], b"outcome done\n")
+        check(f"{label}: exit code 7, of a closed standard output", ran.returncode == 7, ran.returncode)

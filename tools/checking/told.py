@@ -1,0 +1,137 @@
+"""What the documents and the heads of examples say that commands print, against what they print and what tools/reference.py computes."""
+import pathlib
+import re
+
+import reference
+from .counting import check, run, text_of, written
+
+
+def account_of(example, words, by="run"):
+    """The account of a run, by the second program: its measures, each with a number for each group."""
+    document = written(reference.answer(["--mode", "trace"] + words, text_of(example).decode())[1])
+    numbers = {}
+    for line in reference.account(document, by)[1][1:]:
+        measure, _, count = line.split(",")
+        numbers.setdefault(measure, []).append(int(count))
+    return numbers
+
+
+def by_the_reference(command):
+    """What the second program has to say of a command that makes an account, as a text, or shows a state; nothing for other commands."""
+    made = re.fullmatch(r"\./denovo (.*)--mode trace < examples/(\S+)\.s \| \./view --mode (account|state)(?: --(?:by|event) (\w+))?", command)
+    if not made:
+        return None
+    document = written(reference.answer(["--mode", "trace"] + made[1].split(), text_of(made[2]).decode())[1])
+    if made[3] == "state":
+        return written(reference.state(document, int(made[4] or "0"))[1])
+    return written(reference.account(document, made[4] or "run", "text")[1])
+
+
+def pages_show_what_is_printed():
+    """Each block behind a command of these pages is a part of what the command prints, and for an account of what it has to print."""
+    for page in ("docs/TUTORIAL.md", "docs/ACCOUNT.md", "docs/STATE.md", "docs/PAGE.md", "docs/COMPARING.md"):
+        text = pathlib.Path(page).read_text()
+        for command, block in re.findall(r"^    ((?:\./denovo|examples/)[^\n]*)\n\n```\n(.*?)^```$", text, re.M | re.S):
+            ran = run(["bash", "-c", command])
+            check(f"{page}: {command}", block.encode() in ran.stdout, ran.stdout[:300])
+            wanted = by_the_reference(command)
+            check(f"{page}: {command}, by tools/reference.py", wanted is None or ran.stdout == wanted, ran.stdout[:300])
+        for command, kind_of_file in re.findall(r"^    (\./denovo.*) > \S+\.(svg|html)$", text, re.M):
+            ran = run(["bash", "-o", "pipefail", "-c", command])
+            head = {"svg": b"<svg", "html": b"<!DOCTYPE html>"}[kind_of_file]
+            check(f"{page}: {command}", ran.returncode == 0 and ran.stdout.startswith(head))
+
+
+def the_first_page_shows_a_whole_answer():
+    """README explains an answer line by line: its text, its lines and the program's are those of the example."""
+    page = pathlib.Path("README.md").read_text()
+    shown, printed = (re.search(rf"{before}\n\n((?:    .*\n)+)", page)[1] for before in ("core 1 copies it again in phase 2:", "The program prints"))
+    for block, wanted in ((shown, text_of("stale-copy").decode().split("\n")), (printed, reference.answer([], text_of("stale-copy").decode())[1])):
+        lines = [re.split("  +", line.strip())[0] for line in block.splitlines()]
+        wanted = [line for line in wanted if not line.startswith("#")]
+        check(f"README.md: {lines[0]} and so on", lines == wanted[:len(lines)] and (block is shown or len(lines) == len(wanted)))
+
+
+def every_command_of_the_exercises_answers():
+    """The commands of docs/LAB.md give what tools/reference.py says, whether they print a run or its account."""
+    for command in re.findall(r"^    (\./denovo.*)$", pathlib.Path("docs/LAB.md").read_text(), re.M):
+        if "examples/" in command:
+            ran, wanted = run(["bash", "-c", command]), by_the_reference(command)
+            if wanted is None:
+                words, example = re.fullmatch(r"\./denovo (.*)< examples/(\S+)\.s", command).groups()
+                wanted = written(reference.answer(words.split(), text_of(example).decode())[1])
+            check(f"docs/LAB.md: {command}", ran.stdout == wanted, ran.stdout[:300])
+
+
+def the_answers_to_exercises_have_the_numbers():
+    """The tables of docs/LAB_ANSWERS.md whose rows are runs, and the numbers that stand beside them."""
+    page = pathlib.Path("docs/LAB_ANSWERS.md").read_text()
+
+    def table(head):
+        found = re.search(r"^(?: *|\d\. )\| (" + re.escape(head) + r".*) \|\n *\|[-|]*\|\n((?: *\|.*\n)+)", page, re.M)
+        heads = [cell.strip(" `") for cell in found[1].split("|")]
+        return [dict(zip(heads, (cell.strip() for cell in row.strip(" |").split("|")))) for row in found[2].splitlines()]
+
+    for row in table("Sets, ways"):
+        sets, ways = row.pop("Sets, ways").split(", ")
+        numbers = account_of("stencil", ["--sets", sets, "--ways", ways])
+        whole = {name: total for name, (total,) in numbers.items()}
+        whole |= {"Places": int(sets) * int(ways), "evict": whole["evicted-copies"] + whole["evicted-registered"]}
+        check(f"docs/LAB_ANSWERS.md: {sets} sets, {ways} ways", all(whole[name] == int(told) for name, told in row.items()), row)
+    for row in table("Order of cores"):
+        words = ["--seed", row.pop("Seed")]
+        lines, numbers = reference.answer(words, text_of("signature").decode())[1], account_of("signature", words)
+        orders = ", ".join(line.split()[2] for line in lines if line.startswith("grant "))
+        values = ", ".join(str(int(line.split()[2], 16)) for line in lines if line.startswith("word "))
+        check(f"docs/LAB_ANSWERS.md: the order {orders}", row.pop("Order of cores") == orders, orders)
+        check(f"docs/LAB_ANSWERS.md: what is read in the order {orders}", values.endswith(row.pop("Values read")), values)
+        check(f"docs/LAB_ANSWERS.md: the account of the order {orders}", all(numbers[name] == [int(told)] for name, told in row.items()), row)
+    pairs = {}
+    for seed in range(1, 61):
+        words = ["--sets", "1", "--ways", "1", "--seed", str(seed)]
+        counts = dict(line.split()[1:] for line in reference.answer(words, text_of("eviction-race").decode())[1] if line.startswith("count "))
+        pair = f"{counts['evict']}, {counts['reg-fwd']}"
+        pairs[pair] = pairs.get(pair, 0) + 1
+        check(f"docs/LAB_ANSWERS.md: taken, of the pair {pair}", account_of("eviction-race", words)["taken"] == [int(pair == "0, 1")])
+    told = {row["evict, reg-fwd"]: int(row["Seeds of 1 to 60"]) for row in table("evict, reg-fwd")}
+    check("docs/LAB_ANSWERS.md: three orders of one race", told == pairs, pairs)
+    for example, words, by, measure, wanted in (
+            ("tutorial-two-cores", [], "core", "loads", [2, 2]), ("tutorial-two-cores", [], "core", "stores", [2, 2]),
+            ("tutorial-two-cores", [], "core", "registers", [2, 2]), ("tutorial-two-cores", [], "core", "misses-first", [2, 2]),
+            ("tutorial-two-cores", [], "core", "misses", [2, 2]), ("stale-copy", [], "phase", "dropped-phase", [0, 1, 0]),
+            ("stale-copy", [], "phase", "misses-phase", [0, 0, 1]), ("stale-copy", [], "run", "dropped-phase-current", [0]),
+            ("touched-bit", [], "run", "misses", [2]), ("touched-bit", [], "phase", "kept-touched", [1, 1, 0, 0]),
+            ("touched-bit", [], "phase", "dropped-phase-current", [0, 0, 1, 0]), ("touched-bit", [], "phase", "misses-phase", [0, 0, 0, 1]),
+            ("locked-counter", [], "core", "taken", [3, 2, 3, 3]), ("stale-copy", [], "phase", "untold-copies", [0, 1, 0]),
+            ("read-sharing", [], "run", "untold-copies", [0]), ("many-readers", [], "phase", "untold-copies", [0, 240]),
+            ("many-readers", [], "phase", "registers", [15, 16]), ("stencil", [], "run", "untold-copies", [0]),
+            ("stencil", ["--sets", "64", "--ways", "1"], "run", "untold-copies", [4])):
+        check(f"docs/LAB_ANSWERS.md: {measure} of {example}", account_of(example, words, by)[measure] == wanted)
+
+
+def heads_of_examples_say_what_is_printed():
+    """Where the comment at the head of an example quotes a line of an answer, or its first words, one of its commands prints such a line."""
+    for path in sorted(pathlib.Path("examples").glob("*.s")):
+        head = [line.strip("# \n") for line in path.read_text().split("\n") if line.startswith("#")]
+        printed = "".join(run(["bash", "-c", line]).stdout.decode() for line in head if line.startswith("./denovo")).split("\n")
+        for told in re.findall(r"`((?:count|outcome|task|refused|proved|unbounded) [^`]*)`", " ".join(line for line in head if not line.startswith("./"))):
+            check(f"{path}: {told}", any((line + " ").startswith(told + " ") for line in printed))
+
+
+def the_page_on_accounts_has_the_numbers():
+    """The table of docs/ACCOUNT.md: a column for a text and the words of its run, and each measure that isn't 0 in all of them."""
+    page = pathlib.Path("docs/ACCOUNT.md").read_text()
+    heads, rows = re.search(r"^\| Measure \|(.*`.*)\|\n\|[-|]*\|\n((?:\|.*\n)+)", page, re.M).groups()
+    rows = [[cell.strip() for cell in row.strip("|").split("|")] for row in rows.splitlines()]
+    told = {row[0].strip("`"): row[1:] for row in rows}
+    wanted = {measure: [] for measure in reference.MEASURES}
+    for head in heads.split("|"):
+        example, *words = head.replace("`", "").split()
+        document = written(reference.answer(["--mode", "trace"] + words, text_of(example).decode())[1])
+        for line in reference.account(document, "run")[1][1:]:
+            wanted[line.split(",")[0]].append(line.split(",")[2])
+    wanted = {measure: counts for measure, counts in wanted.items() if set(counts) != {"0"}}
+    differ = [(name, told.get(name), wanted.get(name)) for name in reference.MEASURES if told.get(name) != wanted.get(name)]
+    check("docs/ACCOUNT.md: the numbers of its runs", told == wanted, differ)
+    measures = re.findall(r"^\| `([a-z-]+)` \| [A-Za-z]", page, re.M)
+    check("docs/ACCOUNT.md: what each measure counts", sorted(measures) == sorted(reference.MEASURES), set(measures) ^ set(reference.MEASURES))

@@ -1,0 +1,41 @@
+"""A second program for the machine: what `denovo` has to write, computed without any of its code.
+
+`tools/reference.py` is its command, and its page. Here are the names that other tools use; each module says at its head what it is for.
+None imports one that stands below it in this list:
+
+    isa, signatures, kinds              instructions; signatures; kinds of events and rows of tables
+    texts, work                         texts of the language, and the generated one
+    task, one_memory, parts, machine    one task; tasks on one memory; cores, banks and keeper; the machine
+    prove, ticks, report                the prover of effects; the longest chain; what is written of a run
+    documents, chart, accounts,         the document of a run, and what is shown of one
+    state_text, pages
+    answers, claims, scripts            the program's answers; claims of other simulators; scripts of events
+    cases, small_examples, command      what looks at stored cases and at runs of small texts; the command
+"""
+from .accounts import MEASURES, account
+from .answers import answer, opened, options
+from .cases import expanded, read_case, run_cases, sections
+from .chart import Chart
+from .claims import claim, claim_text, judged
+from .documents import document, read_document, replayed
+from .isa import decode, instruction_text
+from .kinds import KINDS, ROWS
+from .machine import Machine, Pcg32
+from .one_memory import flat
+from .pages import page, state_lines, states
+from .prove import proved
+from .report import STATUS, agree_with_flat, answer_text, count_text, grant_text, outcome, run_text, summary
+from .scripts import event_line, event_of, play
+from .small_examples import STORE_FIVE, SHARED, STALE, IDLE, ONE_PLACE, PART, COUNTER, CROSSED, TRAP, MARKS, rows
+from .state_text import StateText, state
+from .task import TaskState
+from .texts import Program, Task, Unfit, assemble, statements
+from .ticks import longest, ticks_by, timed, timing
+from .work import work_text
+
+__all__ = [
+    "COUNTER", "CROSSED", "Chart", "IDLE", "KINDS", "MARKS", "MEASURES", "Machine", "ONE_PLACE", "PART", "Pcg32", "Program", "ROWS", "SHARED", "STALE",
+    "STATUS", "STORE_FIVE", "StateText", "TRAP", "Task", "TaskState", "Unfit", "account", "agree_with_flat", "answer", "answer_text", "assemble", "claim",
+    "claim_text", "count_text", "decode", "document", "event_line", "event_of", "expanded", "flat", "grant_text", "instruction_text", "judged", "longest",
+    "opened", "options", "outcome", "page", "play", "proved", "read_case", "read_document", "replayed", "rows", "run_cases", "run_text", "sections",
+    "state", "state_lines", "statements", "states", "summary", "ticks_by", "timed", "timing", "work_text"]

@@ -1,0 +1,222 @@
+"""The message chart of a run, as an SVG text, by docs/CHART.md."""
+
+from .documents import read_document
+from .isa import instruction_text
+from .machine import Machine
+from .texts import assemble, code_lines
+from .ticks import ticks_by, timed
+
+CHART_STYLE = """<style>.denovo-chart{color-scheme:light dark}.denovo-ground{fill:#fff}.denovo-odd{fill:#edf2f7}.denovo-rule{stroke:#7d8b99}.denovo-lane{stroke:#b4bac0}
+.denovo-mail,.denovo-cut{stroke:#26598c;fill:none}.denovo-cut{stroke-dasharray:7 4}.denovo-event,.denovo-head{fill:#26598c}
+.denovo-path{stroke:#f93;stroke-width:7;stroke-opacity:.45;stroke-linejoin:round;fill:none}.denovo-ring{stroke:#b34700;stroke-width:2;fill:none}
+.denovo-text{fill:#1c2126;paint-order:stroke;stroke:#fff;stroke-width:4;stroke-linejoin:round}.denovo-left{text-anchor:end}
+.denovo-title{font-size:15px}.denovo-actor{font-weight:bold;text-anchor:middle}.denovo-number{fill:#4d565f}.denovo-change{fill:#832a00}
+.denovo-end{fill:#8c0d0d;font-weight:bold}
+@media screen and (prefers-color-scheme:dark){.denovo-ground{fill:#14181d}.denovo-odd{fill:#1e2731}.denovo-rule{stroke:#7d8b99}.denovo-lane{stroke:#545d66}
+.denovo-mail,.denovo-cut{stroke:#86b9ec}.denovo-event,.denovo-head{fill:#86b9ec}.denovo-path{stroke-opacity:.4}.denovo-ring{stroke:#ffb454}
+.denovo-text{fill:#e6e9ec;stroke:#14181d}.denovo-number{fill:#aab4be}.denovo-change{fill:#ffb489}.denovo-end{fill:#ff9d9d}}</style>
+"""
+
+CHART_LEGEND = """<circle class='denovo-event' cx='14' cy='60' r='4'/><text class='denovo-text' x='26' y='64'>event</text>
+<circle class='denovo-ring' cx='84' cy='60' r='8'/><text class='denovo-text' x='98' y='64'>on the longest chain</text>
+<path class='denovo-mail' d='M254 60H282'/><path class='denovo-head' d='M290 60l-8 -4v8z'/><text class='denovo-text' x='296' y='64'>mail</text>
+<path class='denovo-cut' d='M342 60H370'/><path class='denovo-head' d='M378 60l-8 -4v8z'/><text class='denovo-text' x='384' y='64'>mail from before or to behind the range</text>
+<text class='denovo-text denovo-change' x='682' y='64'>word: before &#8594; after</text>
+"""
+
+CHART_MEANING = (". Each column is a core, a bank, or the keeper of the phases. Each row is an event of the run, in their order. "
+                 "An arrow leads from the event that sent a mail to the event that handles it.")
+# what a message is about, by its kind
+ABOUT_WORD = ("read-req", "read-fwd", "data-reply", "reg-req", "reg-fwd", "reg-ack", "write-back", "wb-ack")
+ABOUT_LOCK = ("acquire", "release", "grant")
+
+
+class Chart:
+    """The message chart of a range of a document's events, as an SVG text."""
+
+    def __init__(self, data, first=0, most=1000, ticks=(1, 10, 5), used=False):
+        sizes, text, self.events = read_document(data)
+        self.first, self.total = first, len(self.events)
+        self.program = assemble(text.decode("utf-8", "replace"))
+        self.machine = Machine(self.program, *sizes)
+        self.lines_of_code = code_lines(text.decode("utf-8", "replace"))
+        self.chain = self.longest(sizes, ticks)
+        self.rows, self.sent, self.line = [], {}, 0
+        for number, event in enumerate(self.events[:first + most]):
+            if number < first:
+                self.machine.step(event)
+            else:
+                self.add(number, event)
+        self.leaving = [(mail, self.sent[mail[:2]]) for mail in self.machine.pool if mail[:2] in self.sent]
+        self.waits = []
+        if first + most >= self.total:
+            self.waits = [(node.core, node.wait[1]) for node in self.machine.nodes if node.wait and node.wait[0] == "locking"]
+        self.banks = list(range(self.machine.banks))
+        if used:
+            busy = {row["actor"] for row in self.rows} | {row["from"][0] for row in self.rows if row["from"]}
+            busy |= {mail[2] for mail, _ in self.leaving}
+            self.banks = [bank for bank in self.banks if ("bank", bank) in busy]
+
+    def longest(self, sizes, ticks):
+        """The numbers of the events of the longest chain, where a core's own event, one of a bank and another take so many ticks."""
+        kinds = ticks_by(*ticks)
+        machine = Machine(self.program, *sizes)
+
+        def again(trace):
+            for event in self.events:
+                trace(event)
+                machine.step(event)
+        return {int(line.split()[1]) for line in timed(machine, again, kinds)[2:]}
+
+    def states(self, actor):
+        """What an actor has for each word that it has something for."""
+        if actor == "keeper":
+            return {}
+        if actor[0] == "core":
+            kinds = {("V", False): "valid", ("V", True): "touched", ("R", False): "registered", ("R", True): "pending"}
+            return {word: "%s 0x%08x" % (kinds.get((entry[0], entry[2]), "leaving"), entry[1])
+                    for places in self.machine.nodes[actor[1]].cache for word, entry in places.items()}
+        return {word: "home 0x%08x" % what if state == "home" else "at core %d" % what
+                for word, (state, what) in self.machine.homes[actor[1]].words.items()}
+
+    def add(self, number, event):
+        machine = self.machine
+        row = {"event": number, "line": self.line, "from": None, "about": "", "end": None, "phase": machine.keeper.phase}
+        if event[0] == "handle":
+            mail = next(mail for mail in machine.pool if mail[:2] == event[1:])
+            row.update({"actor": mail[2], "kind": mail[3][0], "from": (mail[0], self.sent.pop(mail[:2], None)), "about": self.about(mail[3])})
+        else:
+            row.update({"actor": ("core", event[1]), "kind": event[0]})
+            task = machine.nodes[event[1]].task
+            if event[0] == "instr":
+                at = (task.pc - 0x1000) // 4
+                if task.pc % 4 == 0 and 0 <= at < len(self.program.code):
+                    line, part = self.lines_of_code[at]
+                    row["kind"] = "line %d%s: %s" % (line, " (second word)" if part else "", instruction_text(self.program.code[at]))
+                if machine.nodes[event[1]].next[0] == "end":
+                    row["end"] = machine.nodes[event[1]].next[1]
+            elif event[0] == "evict":
+                row["about"] = " " + self.word(event[2])
+        before, numbers = self.states(row["actor"]), dict(machine.numbers)
+        machine.step(event)
+        after = self.states(row["actor"])
+        row["changes"] = [(word, before.get(word, "none"), after.get(word, "none"))
+                          for word in sorted(before.keys() | after.keys()) if before.get(word) != after.get(word)]
+        actor = row["actor"]
+        for sent in range(numbers.get(actor, 0), machine.numbers.get(actor, 0)):
+            self.sent[actor, sent] = self.line
+        self.line += 1 + len(row["changes"]) + (row["end"] is not None)
+        self.rows.append(row)
+
+    def word(self, word):
+        for name, (start, length) in self.program.regions.items():
+            if start <= word < start + length:
+                return "%s[%d]" % (name, word - start)
+        return "word %d" % word
+
+    def lock(self, lock):
+        return "%s (lock %d)" % (self.program.locks[lock], lock)
+
+    def about(self, message):
+        if message[0] in ABOUT_WORD:
+            return " " + self.word(message[1])
+        if message[0] in ABOUT_LOCK:
+            return " " + self.lock(message[1])
+        return " phase %d" % message[1] if message[0] == "go" else ""
+
+    # where things stand
+
+    def x(self, actor):
+        place = self.machine.cores + len(self.banks)
+        if actor != "keeper":
+            place = actor[1] if actor[0] == "core" else self.machine.cores + len([bank for bank in self.banks if bank < actor[1]])
+        return 300 + 132 * place
+
+    @staticmethod
+    def y(line):
+        return 130 + 18 * line
+
+    # what is drawn
+
+    def text(self):
+        width = self.x("keeper") + 300
+        bottom = self.y(self.line + len(self.leaving) + len(self.waits))
+        height = bottom + 18
+        machine = self.machine
+        count = len(self.rows)
+        title = "Message chart: events %d to %d of %d" % (self.first, self.first + count - 1, self.total) if count else \
+            "Message chart: no event of %d" % self.total
+        size = "Machine: cores %d, banks %d, sets %d, ways %d, fuel %d" % (machine.cores, machine.banks, machine.sets, machine.ways, machine.fuel)
+        out = ["<svg xmlns='http://www.w3.org/2000/svg' class='denovo-chart' role='img' font-family='monospace' font-size='12' width='%d' height='%d' "
+               "viewBox='0 0 %d %d'>\n" % (width, height, width, height),
+               "<title>%s</title>\n<desc>%s%s</desc>\n" % (title, size, CHART_MEANING), CHART_STYLE,
+               "<rect class='denovo-ground' width='%d' height='%d'/>\n" % (width, height),
+               self.words("denovo-title", 8, 22, title), self.words("denovo-size", 8, 40, size), CHART_LEGEND]
+        phase = None
+        for row in self.rows:
+            top = self.y(row["line"]) - 9
+            if row["phase"] % 2:
+                out.append("<rect class='denovo-odd' x='0' y='%d' width='%d' height='%d'/>\n" % (top, width, 18 * self.height(row)))
+            if row["phase"] != phase:
+                out.append("<path class='denovo-rule' d='M0 %dH%d'/>\n" % (top, width))
+                out.append(self.words("denovo-left denovo-number", width - 8, top + 13, "phase %d" % row["phase"]))
+            phase = row["phase"]
+        for actor in [("core", core) for core in range(machine.cores)] + [("bank", bank) for bank in self.banks] + ["keeper"]:
+            x = self.x(actor)
+            out.append(self.words("denovo-actor", x, 96, self.actor(actor)))
+            out.append("<path class='denovo-lane' d='M%d 104V%d'/>\n" % (x, bottom))
+        points = "".join("%d,%d " % (self.x(row["actor"]), self.y(row["line"])) for row in self.rows if row["event"] in self.chain)
+        out.append("<polyline class='denovo-path' points='%s'/>\n" % points)
+        for row in self.rows:
+            if row["from"]:
+                sender, line = row["from"]
+                out.append(self.arrow(line is None, self.x(sender), 104 if line is None else self.y(line), self.x(row["actor"]), self.y(row["line"])))
+        for at, (mail, line) in enumerate(self.leaving):
+            out.append(self.arrow(True, self.x(mail[0]), self.y(line), self.x(mail[2]), self.y(self.line + at)))
+        for row in self.rows:
+            out.append(self.row(row))
+        for at, (mail, line) in enumerate(self.leaving):
+            out.append(self.beside(self.x(mail[0]) > self.x(mail[2]), self.x(mail[2]), self.y(self.line + at), mail[3][0] + self.about(mail[3])))
+        for at, (core, lock) in enumerate(self.waits):
+            y = self.y(self.line + len(self.leaving) + at)
+            out.append(self.words("denovo-end", self.x(("core", core)) + 14, y + 4, "waits for " + self.lock(lock)))
+        return "".join(out) + "</svg>\n"
+
+    @staticmethod
+    def height(row):
+        return 1 + len(row["changes"]) + (row["end"] is not None)
+
+    @staticmethod
+    def actor(actor):
+        return "keeper" if actor == "keeper" else "%s %d" % actor
+
+    @staticmethod
+    def words(kind, x, y, words):
+        return "<text class='denovo-text %s' x='%d' y='%d'>%s</text>\n" % (kind, x, y, words)
+
+    @staticmethod
+    def arrow(cut, x1, y1, x2, y2):
+        kind = "denovo-cut" if cut else "denovo-mail"
+        if x1 > x2:
+            return "<path class='%s' d='M%d %dL%d %d'/>\n<path class='denovo-head' d='M%d %dl8 -4v8z'/>\n" % (kind, x1, y1, x2 + 13, y2, x2 + 5, y2)
+        return "<path class='%s' d='M%d %dL%d %d'/>\n<path class='denovo-head' d='M%d %dl-8 -4v8z'/>\n" % (kind, x1, y1, x2 - 13, y2, x2 - 5, y2)
+
+    def beside(self, from_right, x, y, words):
+        return self.words("denovo-left", x - 14, y + 4, words) if from_right else self.words("denovo-right", x + 14, y + 4, words)
+
+    def row(self, row):
+        x, y = self.x(row["actor"]), self.y(row["line"])
+        out = self.words("denovo-number", 8, y + 4, "%d %s" % (row["event"], self.actor(row["actor"])))
+        if row["event"] in self.chain:
+            out += "<circle class='denovo-ring' cx='%d' cy='%d' r='8'/>\n" % (x, y)
+        out += "<circle class='denovo-event' cx='%d' cy='%d' r='4'/>\n" % (x, y)
+        from_right = row["from"] is not None and self.x(row["from"][0]) > x
+        out += self.beside(from_right, x, y, row["kind"] + row["about"])
+        if row["end"] is not None:
+            y += 18
+            out += self.words("denovo-end", x + 14, y + 4, "ends: " + row["end"])
+        lines = ["<tspan x='%d' dy='18'>%s (word %d): %s &#8594; %s</tspan>" % (x + 14, self.word(word), word, before, after)
+                 for word, before, after in row["changes"]]
+        if lines:
+            out += self.words("denovo-change", x + 14, y + 4, "".join(lines))
+        return out

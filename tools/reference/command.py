@@ -1,0 +1,91 @@
+"""The command: which words ask for what, and its exit codes."""
+
+import sys
+
+from .accounts import account
+from .answers import answer, opened, options
+from .cases import run_cases
+from .chart import Chart
+from .claims import claim, judged
+from .pages import page, states
+from .report import STATUS, agree_with_flat, outcome, run_text
+from .scripts import event_line, play
+from .small_examples import rows
+from .state_text import state
+from .texts import Unfit, assemble
+from .ticks import ticks_by
+from .work import work_text
+
+# What may go wrong with what the program is given, and isn't a mistake of its own.
+UNFIT = (Unfit, OSError, ValueError, IndexError, KeyError)
+
+
+def main(page_of_help):
+    words = sys.argv[1:]
+    if words[:1] in (["--help"], ["-h"]):
+        print(page_of_help, end="")
+        return 0
+    try:
+        return command(words)
+    except UNFIT as why:
+        print("tools/reference.py can't take this: %s: %s" % (type(why).__name__, why), file=sys.stderr)
+        print("It refuses no text properly: ./denovo --mode check says what is wrong with one. --help says what it can do.", file=sys.stderr)
+        return 9
+
+
+def command(words):
+    """Does what the words ask for, and gives the exit code."""
+    if words[:1] == ["rows"]:
+        return 0 if rows() else 1
+    if words[:1] == ["cases"]:
+        return 0 if run_cases(*words[1:3]) else 1
+    if words[:1] == ["text"]:
+        print(work_text(int(words[1])), end="")
+        return 0
+    if words[:1] == ["judge"]:
+        status, out = judged(sys.stdin.buffer.read())
+        print("".join(line + "\n" for line in out), end="")
+        return status
+    if words[:1] == ["claim"]:
+        sys.stdout.buffer.write(claim(words[1:], sys.stdin.buffer.read()))
+        return 0
+    if words[:1] == ["events"]:
+        o = options(words[1:])
+        opened(assemble(sys.stdin.read()), o).run(o["seed"], lambda event: print(event_line(event)))
+        return 0
+    if words[:1] == ["chart"]:
+        o = {"first": 0, "rows": 1000, "tick-core": 1, "tick-bank": 10, "tick-mail": 5, "columns": "all"}
+        o.update(word.lstrip("-").split("=") for word in words[1:])
+        ticks = tuple(int(o["tick-" + kind]) for kind in ("core", "bank", "mail"))
+        chart = Chart(sys.stdin.buffer.read(), int(o["first"]), int(o["rows"]), ticks, o["columns"] == "used")
+        print(chart.text(), end="")
+        return 0
+    if words[:1] == ["account"]:
+        by, form = words[1:3] + ["run", "csv"][len(words[1:3]):]
+        status, out = account(sys.stdin.buffer.read(), by, form)
+        print("".join(line + "\n" for line in out), end="")
+        return status
+    if words[:1] == ["state"]:
+        status, out = state(sys.stdin.buffer.read(), int((words[1:2] + ["0"])[0]))
+        print("".join(line + "\n" for line in out), end="")
+        return status
+    if words[:1] in (["page"], ["states"]):
+        first, most = (int(word) for word in words[1:3] + ["0", "4096"][len(words[1:3]):])
+        data = sys.stdin.buffer.read()
+        if words[0] == "states":
+            print("".join("\n".join(lines) + "\n\n" for lines in states(data, first, most)), end="")
+            return 0
+        status, out = page(data, "".join(words[3:4]), first, most, ticks_by(1, 10, 5))
+        print(out, end="")
+        return status
+    if words[:1] == ["script"]:
+        with open(words[1]) as file:
+            lines = [line.strip() for line in file if line.strip() and line[0] != "#"]
+        machine = opened(assemble(sys.stdin.read()), options(words[2:]))
+        play(machine, lines)
+        agree_with_flat(machine)
+        status, out = STATUS[outcome(machine.ending()[0])], run_text(machine)
+    else:
+        status, out = answer(words, sys.stdin.read())
+    print("".join(line + "\n" for line in out), end="")
+    return status
