@@ -9,12 +9,9 @@ use crate::range::Range;
 use crate::row::Row;
 use crate::usable::{Access, UsableSets, are_usable};
 use dn_base::Memory;
-use region_table::{Program, TaskDecl};
+use region_table::{FIRST_DATA_ADDRESS, Program, TaskDecl};
 use rv_isa::{AluOp, Instr, Reg, Width};
 use std::alloc::Global;
-
-/// The address of data word 0, in bytes.
-const DATA: u32 = 0x1000_0000;
 
 /// The greatest multiple of a width up to `hi`.
 fn last_up_to(width: Width, hi: u32) -> u32
@@ -63,10 +60,10 @@ fn are_allowed(
         return Ok(true);
     }
     let first = first_from(width, range.lo, last);
-    if first < DATA {
+    if first < FIRST_DATA_ADDRESS {
         return Ok(false);
     }
-    if ((last - DATA) / 4) as usize >= program.memory.len() {
+    if ((last - FIRST_DATA_ADDRESS) / 4) as usize >= program.memory.len() {
         return Ok(false);
     }
     are_usable(
@@ -74,8 +71,8 @@ fn are_allowed(
         access,
         task,
         held,
-        (first - DATA) / 4,
-        (last - DATA) / 4,
+        (first - FIRST_DATA_ADDRESS) / 4,
+        (last - FIRST_DATA_ADDRESS) / 4,
         usable,
     )
 }

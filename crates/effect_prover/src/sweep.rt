@@ -13,19 +13,16 @@ use crate::blocks::last_of_block;
 use crate::row::Row;
 use crate::successors::Successors;
 use dn_base::Memory;
-use region_table::{Program, TaskDecl};
+use region_table::{FIRST_CODE_ADDRESS, Program, TaskDecl};
 use rv_isa::{Instr, decode};
 use std::alloc::Global;
-
-/// The address of code word 0, in bytes.
-const CODE: u32 = 0x1000;
 
 /// The address of a code word.
 pub(crate) fn address(place: usize) -> u32
     requires { place < 16384 }
     ensures { result ≡ address_at place }
 {
-    CODE + 4 * place as u32
+    FIRST_CODE_ADDRESS + 4 * place as u32
 }
 
 /// The index of the code word at an address, among `words` code words.
@@ -33,10 +30,10 @@ pub(crate) fn place_of(address: u32, words: usize) -> Option<usize>
     ensures some { IfSome result (λ place. (place < words) × (address ≡ address_at place)) }
     ensures none { IfNone result ((i : ℕ) → i < words → address ≡ address_at i → ⊥) }
 {
-    if address < CODE || address % 4 != 0 {
+    if address < FIRST_CODE_ADDRESS || address % 4 != 0 {
         return None;
     }
-    let place = ((address - CODE) / 4) as usize;
+    let place = ((address - FIRST_CODE_ADDRESS) / 4) as usize;
     if place < words { Some(place) } else { None }
 }
 

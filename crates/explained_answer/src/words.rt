@@ -10,10 +10,9 @@ ghost use Rattle.explained_answer.specs.AnswerLines.{IsShownWord, StandWord, NoC
 use crate::line::Count;
 use dn_base::Outcome;
 use message_net::EventKind;
+use region_table::FIRST_DATA_ADDRESS;
 use text_pieces::{behind, field, hexadecimal};
 
-/// The address of data word 0.
-const FIRST_DATA_ADDRESS: u32 = 0x1000_0000;
 /// How many data words a program has at most.
 const MOST_WORDS: u32 = 65536;
 

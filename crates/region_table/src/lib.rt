@@ -20,5 +20,5 @@ pub use laws::{
     a_program_is_well_formed,
 };
 pub use plan::{PhasePlan, plans};
-pub use program::Program;
+pub use program::{FIRST_CODE_ADDRESS, FIRST_DATA_ADDRESS, Program};
 pub use words::WordSet;

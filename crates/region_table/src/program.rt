@@ -1,11 +1,19 @@
 ghost use Rattle.std.specs.Prelude.{◌≡◌, ◌<◌, ◌≤◌, max};
-ghost use Rattle.std.specs.List.{All};
+ghost use Rattle.std.specs.List.{All, find};
+ghost use Rattle.std.specs.Option.{option_copied};
 ghost use Rattle.region_table.specs.declared.declared.TaskDecl.{TaskDecl};
 ghost use Rattle.region_table.specs.Program.{cores_of, cores_in};
+ghost use Rattle.region_table.specs.Tasks.{declared, is_for};
 
 use crate::declared::{Phase, Region, TaskDecl};
-use dn_base::{Name, Sequence};
+use dn_base::{CoreId, Name, PhaseId, Sequence};
 use std::marker::Model;
+
+/// The address of code word 0, in bytes.
+pub const FIRST_CODE_ADDRESS: u32 = 0x1000;
+
+/// The address of data word 0, in bytes.
+pub const FIRST_DATA_ADDRESS: u32 = 0x1000_0000;
 
 /// An assembled program: its code words, its initial memory, its regions, locks and phases.
 ///
@@ -48,6 +56,34 @@ impl Program {
         }
         most
     }
+
+    /// The task that the program declares for the core in the phase, if it does. Where each core below it has a task, it stands
+    /// at the place of the core's number.
+    #[inline(always)]
+    pub fn task(&self, phase: PhaseId, core: CoreId) -> Option<&TaskDecl>
+        ensures { option_copied result ≡ declared self.now phase.0 core.0 }
+    {
+        let Some(phase) = self.phases.get(phase.0 as usize) else {
+            return None;
+        };
+        let tasks = phase.tasks.as_slice();
+        match tasks.get(core.0 as usize) {
+            Some(task) if task.core.0 == core.0 => Some(task),
+            _ => task_among(tasks, core),
+        }
+    }
+}
+
+/// The task of the core among these, if it has one.
+fn task_among(tasks: &[TaskDecl], core: CoreId) -> Option<&TaskDecl>
+    ensures { option_copied result ≡ find (is_for core.0) tasks.now }
+{
+    for task in tasks {
+        if task.core.0 == core.0 {
+            return Some(task);
+        }
+    }
+    None
 }
 
 /// The greater of `most` and the number of cores that these tasks need.

@@ -6,7 +6,7 @@ ghost use Rattle.registration_protocol.specs.Setting.{setting};
 ghost use Rattle.registration_protocol.specs.OwnEvents.{may_access, lets, may_instr, may_arrive, arrives, evicted};
 ghost use Rattle.registration_protocol.specs.Messages.{fills, read_fwd_row, data_reply_row, reg_ack_row, reg_fwd_row, wb_ack_row, halt_row};
 
-use crate::setting::{Context, declaration, start};
+use crate::setting::{Context, start};
 use crate::signatures::empty_signatures;
 use dn_base::{CoreId, Grant, LoadSeen, LockId, Memory, PhaseId, Sequence, WordId};
 use message_net::{Message, Outgoing};
@@ -142,7 +142,7 @@ impl Node {
         if task.end.is_some() {
             return None;
         }
-        let declared = declaration(context.decoded.program(), self.phase, self.core)?;
+        let declared = context.decoded.program().task(self.phase, self.core)?;
         Some(context.decoded.need(task, declared, context.fuel))
     }
 

@@ -3,7 +3,6 @@ ghost use Rattle.std.specs.Prelude.{◌≡◌, option_copied};
 ghost use Rattle.registration_protocol.specs.Node.{Setting, need_now};
 
 use crate::node::{Node, NodeWait};
-use crate::setting::declaration;
 use dn_base::{CoreId, PhaseId};
 use region_table::Program;
 use rv_core::{Need, TaskState};
@@ -76,7 +75,7 @@ impl Node {
         if task.end.is_some() {
             return None;
         }
-        let declared = declaration(program, self.phase, self.core)?;
+        let declared = program.task(self.phase, self.core)?;
         Some(task.need(program, declared, fuel))
     }
 }

@@ -1,7 +1,6 @@
 ghost use Rattle.std.specs.Prelude.{◌≡◌, ◌≤◌, length};
-ghost use Rattle.std.specs.List.{find};
 ghost use Rattle.std.specs.Option.{option_copied, option_map};
-ghost use Rattle.region_table.specs.Tasks.{declared, is_for};
+ghost use Rattle.region_table.specs.Tasks.{declared};
 ghost use Rattle.rv_core.specs.Task.{started};
 
 use dn_base::{CoreId, PhaseId, Shape};
@@ -21,41 +20,23 @@ pub struct Context<'a> {
     pub fuel: u32,
 }
 
-/// The task of the core among these, if it has one.
-fn find_in(tasks: &[TaskDecl], core: CoreId) -> Option<&TaskDecl>
-    ensures { option_copied result ≡ find (is_for core.0) tasks.now }
-{
-    for task in tasks {
-        if task.core.0 == core.0 {
-            return Some(task);
-        }
-    }
-    None
-}
-
-/// The task that the program declares for the core in the phase, if it does. Where each core below it has a task, it stands
-/// at the place of the core's number.
+/// The task that the program declares for the core in the phase, if it does, and the limits of the program.
 #[inline(always)]
 pub(crate) fn declaration(program: &Program, phase: PhaseId, core: CoreId) -> Option<&TaskDecl>
     ensures value { option_copied result ≡ declared program.now phase.0 core.0 }
     ensures locks { length program.now.locks ≤ 32 }
     ensures phases { length program.now.phases ≤ 64 }
 {
-    let Some(phase) = program.phases.get(phase.0 as usize) else {
-        return None;
-    };
-    let tasks = phase.tasks.as_slice();
-    match tasks.get(core.0 as usize) {
-        Some(task) if task.core.0 == core.0 => Some(task),
-        _ => find_in(tasks, core),
-    }
+    // for the proof alone: a read of a field brings the limits
+    let _locks = &program.locks;
+    program.task(phase, core)
 }
 
 /// The task of the core in the phase at its start, if it has one.
 pub(crate) fn start(program: &Program, phase: PhaseId, core: CoreId) -> Option<TaskState>
     ensures { result ≡ option_map started (declared program.now phase.0 core.0) }
 {
-    match declaration(program, phase, core) {
+    match program.task(phase, core) {
         Some(task) => Some(TaskState::new(task)),
         None => None,
     }

@@ -2,6 +2,7 @@ ghost use Rattle.std.specs.Prelude.{◌≡◌, ◌+◌, ◌*◌, ◌++◌, ◌<�
 ghost use Rattle.run_report.specs.Answer.{outcome_word, kind_word, end_text, outcome_line, task_line, words_line, word_line, word_lines, answer_of};
 
 use dn_base::{Memory, Outcome};
+use region_table::FIRST_DATA_ADDRESS;
 use rv_core::{EndShown, Ending, TaskEnd, TrapKind};
 use std::alloc::Global;
 use text_pieces::{push, push_decimal, push_hexadecimal};
@@ -114,7 +115,7 @@ fn push_word(out: &mut Vec<u8>, word: u32, value: u32) -> Result<(), Memory>
         return Ok(());
     }
     push(out, b"word ")?;
-    push_hexadecimal(out, 0x1000_0000 + 4 * word)?;
+    push_hexadecimal(out, FIRST_DATA_ADDRESS + 4 * word)?;
     push(out, b" ")?;
     push_hexadecimal(out, value)?;
     push(out, b"\n")

@@ -13,6 +13,7 @@ use crate::names::{Meaning, Names};
 use crate::number::{is_branch, is_immediate, is_jump, is_operand, is_upper, wrapped};
 use crate::operand::bytes;
 use crate::statement::{Code, Statement};
+use region_table::{FIRST_CODE_ADDRESS, FIRST_DATA_ADDRESS};
 use rv_isa::{AluOp, Cond, Instr, Reg, Width, encode};
 use src_text::{Token, TokenKind};
 
@@ -175,14 +176,14 @@ fn loaded(rd: Reg, value: u32) -> Emission
 pub(crate) fn label_address(place: u32) -> u32
     ensures { result ≡ label_address place % 2 ^ 32 }
 {
-    place.wrapping_mul(4).wrapping_add(0x1000)
+    place.wrapping_mul(4).wrapping_add(FIRST_CODE_ADDRESS)
 }
 
 /// The address of the data word of this number, modulo 2^32.
 fn region_address(word: u32) -> u32
     ensures { result ≡ region_address word % 2 ^ 32 }
 {
-    word.wrapping_mul(4).wrapping_add(0x1000_0000)
+    word.wrapping_mul(4).wrapping_add(FIRST_DATA_ADDRESS)
 }
 
 /// The distance of a code word from the one with the number `here`, in bytes.

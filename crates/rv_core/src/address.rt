@@ -1,20 +1,15 @@
 ghost use Rattle.std.specs.Prelude.{◌≡◌, ◌⊎◌, ◌+◌, ◌-◌, ◌/◌, ◌%◌, ◌<◌, ◌≤◌, length};
 ghost use Rattle.rv_core.specs.Address.{code_at, data_at, size_of, byte_at, half_at, extended, replaced};
 
+use region_table::{FIRST_CODE_ADDRESS, FIRST_DATA_ADDRESS};
 use rv_isa::Width;
-
-/// The address of code word 0, in bytes.
-pub(crate) const CODE: u32 = 0x1000;
-
-/// The address of data word 0, in bytes.
-const DATA: u32 = 0x1000_0000;
 
 /// The code word at an address, or None if there is none.
 pub(crate) fn code_word(code: &[u32], pc: u32) -> Option<u32>
     ensures { result ≡ code_at code.now pc }
 {
-    if pc >= CODE && pc % 4 == 0 {
-        code.get(((pc - CODE) / 4) as usize).copied()
+    if pc >= FIRST_CODE_ADDRESS && pc % 4 == 0 {
+        code.get(((pc - FIRST_CODE_ADDRESS) / 4) as usize).copied()
     } else {
         None
     }
@@ -28,7 +23,7 @@ pub(crate) fn code_place(pc: u32) -> u32
     ensures nowhere { (pc < 4096) ⊎ (0 < pc % 4) → 65536 ≤ result }
 {
     // Where an address isn't a multiple of 4, its low bits come to the top. An address below the code wraps.
-    pc.wrapping_sub(CODE).rotate_right(2)
+    pc.wrapping_sub(FIRST_CODE_ADDRESS).rotate_right(2)
 }
 
 /// The data word at an address, in a memory of `words` words, or None where none stands there.
@@ -36,8 +31,8 @@ pub(crate) fn code_place(pc: u32) -> u32
 pub(crate) fn data_word(words: usize, address: u32) -> Option<u32>
     ensures { result ≡ data_at words address }
 {
-    if address >= DATA && (((address - DATA) / 4) as usize) < words {
-        Some((address - DATA) / 4)
+    if address >= FIRST_DATA_ADDRESS && (((address - FIRST_DATA_ADDRESS) / 4) as usize) < words {
+        Some((address - FIRST_DATA_ADDRESS) / 4)
     } else {
         None
     }

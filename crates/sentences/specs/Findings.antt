@@ -23,7 +23,7 @@ use Rattle.rv_assembler.specs.Operand.{bytes_of}
 use Rattle.rv_assembler.specs.Shape.{is_name, is_number, is_colon, is_plain}
 use Rattle.rv_assembler.specs.Fault.{are_cores}
 use Rattle.rv_assembler.specs.Reading.{reading_of, version_line}
-use Rattle.sentences.specs.declared.marks.Part.{Part}
+use Rattle.src_text.specs.declared.token.Span.{Span}
 use Rattle.sentences.specs.declared.known.Known.{Known}
 use Rattle.sentences.specs.declared.known.Sort as sort
 use Rattle.sentences.specs.declared.known.Sort.{Sort}
@@ -35,7 +35,7 @@ use Rattle.sentences.specs.declared.findings.Wanted as wanted
 use Rattle.sentences.specs.declared.findings.Want.{Want}
 use Rattle.sentences.specs.Marks.{part_by, bad_place_from, is_high}
 use Rattle.sentences.specs.Examples.{line_alone, form_for}
-use Rattle.sentences.specs.Lexemes.{no_number_in}
+use Rattle.src_text.specs.Lexeme.{is_bad_number, lexemes_of, span_of}
 use Rattle.sentences.specs.Known.{known_in}
 use Rattle.sentences.specs.declared.standing.Standing.{Standing}
 use Rattle.sentences.specs.declared.standing.Standing as standing
@@ -75,7 +75,7 @@ at_byte bytes None = None
 at_byte bytes (Some i) = Some (record { part = record { start = i; end = i + 1 + prefix_len is_high (drop (i + 1) bytes) }; cause = cause.TheVariants.Byte })
 
 -- a part that should be a number and isn't one
-abbrev pub at_part : Option Part → Option Finding
+abbrev pub at_part : Option Span → Option Finding
 at_part None = None
 at_part (Some p) = Some (record { part = p; cause = cause.TheVariants.NoNumber })
 
@@ -273,5 +273,5 @@ finding_in text bytes (Some l) f = finding_on text bytes l f
 -- what is wrong on the line with these bytes
 abbrev pub finding_of : List ℕ → List ℕ → SourceFault → Option Finding
 finding_of text bytes (fault.TheVariants.BadByte line) = at_byte bytes (bad_place_from 0 bytes)
-finding_of text bytes (fault.TheVariants.BadNumber line) = at_part (no_number_in bytes)
+finding_of text bytes (fault.TheVariants.BadNumber line) = at_part (option_map span_of (find is_bad_number (lexemes_of 0 bytes)))
 finding_of text bytes f = finding_in text bytes (line_alone bytes) f

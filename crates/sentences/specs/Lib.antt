@@ -6,7 +6,6 @@ pub mod Faults
 pub mod Findings
 pub mod Guards
 pub mod Known
-pub mod Lexemes
 pub mod Marks
 pub mod Others
 pub mod Standing

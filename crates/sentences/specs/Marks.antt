@@ -5,14 +5,14 @@ use Rattle.std.specs.List.{prefix_len}
 use Rattle.text_pieces.specs.Pieces.{newline}
 use Rattle.src_text.specs.Byte.{is_bad, is_hash}
 use Rattle.src_text.specs.declared.token.Token.{Token}
-use Rattle.sentences.specs.declared.marks.Part.{Part}
+use Rattle.src_text.specs.declared.token.Span.{Span}
 
 -- the bytes from `start` to before `end`; none where they aren't some of these
 abbrev pub bytes_between : List ℕ → ℕ → ℕ → List ℕ
 bytes_between bytes start end = if nat_le start end && nat_le end (length bytes) then slice_range bytes start end else []
 
 -- a token as part of its line
-abbrev pub part_by : Token → Part
+abbrev pub part_by : Token → Span
 part_by t = record { start = t.start; end = t.end }
 
 -- what stands under a byte before the mark: a tab stays one, so that the mark stands under its part
@@ -20,12 +20,12 @@ abbrev pub blank_under : ℕ → ℕ
 blank_under b = if b == 9 then 9 else 32
 
 -- the line under a quoted one: `^` under each byte of the part
-unfoldable pub mark_line : ℕ → List ℕ → Part → List ℕ
+unfoldable pub mark_line : ℕ → List ℕ → Span → List ℕ
 mark_line line bytes p =
     codes "  " ++ map blank_under (decimal line) ++ codes " | " ++ map blank_under (take p.start bytes) ++ replicate (p.end - p.start) 94 ++ newline
 
 -- the bytes of a part, as sentences name it
-unfoldable pub marked_text : List ℕ → Part → List ℕ
+unfoldable pub marked_text : List ℕ → Span → List ℕ
 marked_text bytes p = codes "  `" ++ bytes_between bytes p.start p.end ++ codes "`"
 
 -- the place of the first byte that may not stand outside of comments, where the first of these bytes has the place `place`

@@ -4,14 +4,12 @@ ghost use Rattle.rv_assembler.specs.Number.{natural_of};
 ghost use Rattle.rv_assembler.specs.Operand.{bytes_of};
 ghost use Rattle.sentences.specs.Marks.{bad_place_from};
 ghost use Rattle.sentences.specs.Examples.{line_alone};
-ghost use Rattle.sentences.specs.Lexemes.{no_number_in};
 ghost use Rattle.sentences.specs.Known.{known_in};
 ghost use Rattle.sentences.specs.Findings.{said_alone, version_for_line, finding_at, at_number, at_byte, words_of_sort, words_of_region, out_of_range_at, declared_finding, is_before, declared_token, doubled_token, known_token, declared_at_token, doubled_at, wanted_as, unknown_finding, is_region_sort, is_known_region, want_of_code, want_of_effect, want_of, unknown_if_any, unknown_at, standing_finding, misplaced_at, at_part, finding_by, finding_on, finding_in, finding_of};
 
 use crate::examples::Form;
 use crate::known::{Known, Sort, known_in, token_bytes};
-use crate::lexemes::no_number_in;
-use crate::marks::{Part, bad_place, high_length, part_by};
+use crate::marks::{bad_place, high_length, part_by};
 use crate::operands::{
     at_number, at_word, code_out_of_range, limit_at, operand_at, tasks_out_of_range,
 };
@@ -20,7 +18,7 @@ use dn_base::Memory;
 use rv_assembler::{
     Code, Effect, Reading, Saying, SourceFault, Statement, read_line, version_line,
 };
-use src_text::{Line, Token, tokens};
+use src_text::{Line, Span, Token, bad_number, tokens};
 use std::alloc::Global;
 
 /// What a statement needs a name to be declared as.
@@ -108,7 +106,7 @@ pub(crate) enum Cause {
 /// A part of a line, and why it is wrong.
 #[derive(Clone, Copy)]
 pub(crate) struct Finding {
-    pub(crate) part: Part,
+    pub(crate) part: Span,
     pub(crate) cause: Cause,
 }
 
@@ -128,7 +126,7 @@ fn at_byte(bytes: &[u8]) -> Option<Finding>
     let start = bad_place(bytes)?;
     let end = start + 1 + high_length(&bytes[start + 1..]);
     Some(Finding {
-        part: Part { start, end },
+        part: Span { start, end },
         cause: Cause::Byte,
     })
 }
@@ -487,7 +485,7 @@ fn finding_on(
     }
 }
 
-fn at_part(part: Option<Part>) -> Option<Finding>
+fn at_part(part: Option<Span>) -> Option<Finding>
     ensures { result ≡ at_part part }
 {
     match part {
@@ -530,7 +528,7 @@ pub(crate) fn finding_of(
 {
     match fault {
         SourceFault::BadByte { .. } => Ok(at_byte(bytes)),
-        SourceFault::BadNumber { .. } => Ok(at_part(no_number_in(alloc, bytes)?)),
+        SourceFault::BadNumber { .. } => Ok(at_part(bad_number(bytes))),
         _ => finding_in(alloc, text, bytes, fault),
     }
 }

@@ -13,7 +13,6 @@ mod guards;
 mod kinds;
 mod known;
 mod laws;
-mod lexemes;
 mod marks;
 mod operands;
 mod others;

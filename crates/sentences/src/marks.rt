@@ -6,15 +6,8 @@ ghost use Rattle.src_text.specs.Byte.{is_bad};
 ghost use Rattle.sentences.specs.Marks.{bytes_between, part_by, blank_under, mark_line, marked_text, bad_place_from, is_high};
 
 use dn_base::Memory;
-use src_text::Token;
+use src_text::{Span, Token};
 use text_pieces::push;
-
-/// Some bytes of a line: from `start` to before `end`, counted from 0.
-#[derive(Clone, Copy)]
-pub(crate) struct Part {
-    pub(crate) start: usize,
-    pub(crate) end: usize,
-}
 
 /// The bytes from `start` to before `end`; none where they aren't some of these.
 pub(crate) fn bytes_between(bytes: &[u8], start: usize, end: usize) -> &[u8]
@@ -27,10 +20,10 @@ pub(crate) fn bytes_between(bytes: &[u8], start: usize, end: usize) -> &[u8]
     }
 }
 
-pub(crate) fn part_by(token: Token) -> Part
+pub(crate) fn part_by(token: Token) -> Span
     ensures { result ≡ part_by token }
 {
-    Part {
+    Span {
         start: token.start as usize,
         end: token.end as usize,
     }
@@ -84,7 +77,7 @@ pub(crate) fn push_mark_line(
     out: &mut Vec<u8>,
     line: u32,
     bytes: &[u8],
-    part: Part,
+    part: Span,
 ) -> Result<(), Memory>
     ensures { OnOk result (out.new.items ≡ out.old.items ++ mark_line line bytes.now part) }
 {
@@ -98,7 +91,7 @@ pub(crate) fn push_mark_line(
 
 /// Adds the bytes of a part, as sentences name it.
 #[tactic(auto, unfolding(crate::specs::Marks::marked_text))]
-pub(crate) fn push_part(out: &mut Vec<u8>, bytes: &[u8], part: Part) -> Result<(), Memory>
+pub(crate) fn push_part(out: &mut Vec<u8>, bytes: &[u8], part: Span) -> Result<(), Memory>
     ensures { OnOk result (out.new.items ≡ out.old.items ++ marked_text bytes.now part) }
 {
     push(out, b"  `")?;

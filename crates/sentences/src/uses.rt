@@ -1,15 +1,9 @@
 //! What a task declares of a data word.
 ghost use Rattle.std.specs.Prelude.{◌≡◌};
-ghost use Rattle.std.specs.List.{find};
-ghost use Rattle.std.specs.Option.{option_copied};
-ghost use Rattle.region_table.specs.Tasks.{is_for, declared};
 ghost use Rattle.sentences.specs.Uses.{lock_from, guarded_use, use_of, task_use};
 
-use dn_base::WordId;
-use region_table::{Effects, Program, TaskDecl, WordSet};
-
-/// The address of data word 0.
-const FIRST_DATA_ADDRESS: u32 = 0x1000_0000;
+use dn_base::{CoreId, PhaseId, WordId};
+use region_table::{Effects, FIRST_DATA_ADDRESS, Program, WordSet};
 
 /// What a task declares of a data word.
 #[derive(Clone, Copy)]
@@ -57,28 +51,6 @@ fn use_of(effects: &Effects, word: u32) -> WordUse
     })
 }
 
-/// The task of the core among these, if it has one.
-fn task_of(tasks: &[TaskDecl], core: u32) -> Option<&TaskDecl>
-    ensures { option_copied result ≡ find (is_for core) tasks.now }
-{
-    for task in tasks {
-        if task.core.0 == core {
-            return Some(task);
-        }
-    }
-    None
-}
-
-/// The task that the program declares for the core in the phase, if it does.
-fn declaration(program: &Program, phase: u32, core: u32) -> Option<&TaskDecl>
-    ensures { option_copied result ≡ declared program.now phase core }
-{
-    match program.phases.get(phase as usize) {
-        Some(phase) => task_of(phase.tasks.as_slice(), core),
-        None => None,
-    }
-}
-
 /// What the task of a core in a phase declares of the word at an address; None if there is no such task, or no data word at the
 /// address.
 pub(crate) fn task_use(program: &Program, phase: u32, core: u32, address: u32) -> Option<WordUse>
@@ -87,7 +59,7 @@ pub(crate) fn task_use(program: &Program, phase: u32, core: u32, address: u32) -
     if address < FIRST_DATA_ADDRESS {
         return None;
     }
-    match declaration(program, phase, core) {
+    match program.task(PhaseId(phase), CoreId(core)) {
         Some(task) => Some(use_of(&task.effects, (address - FIRST_DATA_ADDRESS) / 4)),
         None => None,
     }

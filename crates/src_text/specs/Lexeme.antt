@@ -4,6 +4,7 @@ use Rattle.std.specs.List.{before_first}
 use Rattle.src_text.specs.Byte.{is_word, is_mark, is_minus, is_digit, is_hash}
 use Rattle.src_text.specs.Number.{number_of}
 use Rattle.src_text.specs.declared.token.Token.{Token}
+use Rattle.src_text.specs.declared.token.Span.{Span}
 use Rattle.src_text.specs.declared.token.TokenKind.{TokenKind}
 use Rattle.src_text.specs.declared.token.TokenKind.TheVariants.{Name, Number, Comma, Colon, Left, Right}
 
@@ -52,6 +53,10 @@ token_kind_of bs =
 
 abbrev pub is_bad_number : Lexeme → Bool
 is_bad_number l = is_none (token_kind_of l.bytes)
+
+-- where a lexeme stands
+abbrev pub span_of : Lexeme → Span
+span_of l = record { start = l.start; end = l.start + length l.bytes }
 
 -- the token of a lexeme: from the position of its first byte to the position after its last
 abbrev pub token_of : Lexeme → Option Token

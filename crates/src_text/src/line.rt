@@ -35,8 +35,8 @@ const MOST_BYTES: usize = 1024;
 /// The greatest number of a line.
 const MOST_LINES: u32 = 65536;
 
-/// The bytes up to the first newline, or all where there is none.
-fn first_line(text: &[u8]) -> &[u8]
+/// The bytes of a text up to the first newline, or all where there is none. Takes no memory.
+pub fn first_line(text: &[u8]) -> &[u8]
     ensures value { result.now ≡ before_first is_newline text.now }
     ensures within { length result.now ≤ length text.now }
 {
@@ -47,8 +47,8 @@ fn first_line(text: &[u8]) -> &[u8]
     &text[..length]
 }
 
-/// The bytes before the comment, or all where there is none.
-fn code(line: &[u8]) -> &[u8]
+/// The bytes of a line before its comment, or all where there is none.
+pub(crate) fn code(line: &[u8]) -> &[u8]
     ensures value { result.now ≡ before_comment line.now }
     ensures within { length result.now ≤ length line.now }
 {

@@ -1,9 +1,10 @@
-ghost use Rattle.std.specs.Prelude.{◌≡◌, ◌<◌, ◌≤◌, ◌+◌, ◌^◌, length, IfOk, MatchOption, filter_map, true, false};
+ghost use Rattle.std.specs.Prelude.{◌≡◌, ◌<◌, ◌≤◌, ◌+◌, ◌^◌, length, IfOk, MatchOption, filter_map, find, option_map, true, false};
 ghost use Rattle.std.specs.List.{list_any, prefix_len};
 ghost use Rattle.src_text.specs.Byte.{is_word};
-ghost use Rattle.src_text.specs.Lexeme.{begins_token, front, is_bad_number, token_kind_of, lexemes_after, token_of};
+ghost use Rattle.src_text.specs.Lexeme.{begins_token, front, is_bad_number, token_kind_of, lexemes_after, lexemes_of, span_of, token_of};
 
 use crate::byte::{is_mark, is_word};
+use crate::line::code;
 use crate::number::number;
 use dn_base::{Memory, Sequence};
 use std::alloc::Global;
@@ -25,6 +26,13 @@ pub struct Token {
     pub kind: TokenKind,
     pub start: u32,
     pub end: u32,
+}
+
+/// Some bytes of a line: from `start` to before `end`, counted from 0.
+#[derive(Clone, Copy, PartialEq, Eq)]
+pub struct Span {
+    pub start: usize,
+    pub end: usize,
 }
 
 /// Whether a token begins at `byte`, which follows `before`.
@@ -104,4 +112,30 @@ pub(crate) fn scan(
         before = *byte;
     }
     Ok(Some(tokens))
+}
+
+/// Where the first number of a line's code stands that is bad.
+fn bad_number_in(code: &[u8]) -> Option<Span>
+    ensures { result ≡ option_map span_of (find is_bad_number (lexemes_after 32 0 code.now)) }
+{
+    let mut before = b' ';
+    for (start, byte) in code.iter().enumerate() {
+        if begins(before, *byte) {
+            let lexeme = front(&code[start..]);
+            if kind(lexeme).is_none() {
+                let end = start + lexeme.len();
+                return Some(Span { start, end });
+            }
+        }
+        before = *byte;
+    }
+    None
+}
+
+/// Where the first number of a line stands that is bad: it begins as a number, and is none or too large. A number in the
+/// comment doesn't count. Takes no memory.
+pub fn bad_number(line: &[u8]) -> Option<Span>
+    ensures { result ≡ option_map span_of (find is_bad_number (lexemes_of 0 line.now)) }
+{
+    bad_number_in(code(line))
 }

@@ -3,11 +3,8 @@ ghost use Rattle.text_places.specs.Texts.{indexed, plain_word, region_word_text,
 
 use crate::{CodePlace, WordPlace, line_text, region_of_word};
 use dn_base::{Memory, Name};
-use region_table::Program;
+use region_table::{FIRST_DATA_ADDRESS, Program};
 use text_pieces::{push, push_decimal, push_long};
-
-/// The address of data word 0.
-const FIRST_DATA_ADDRESS: u32 = 0x1000_0000;
 
 #[tactic(auto, unfolding(crate::specs::Texts::indexed))]
 fn push_indexed(out: &mut Vec<u8>, name: &Name, index: u32) -> Result<(), Memory>
