@@ -10,9 +10,8 @@ use Rattle.claim_document.specs.declared.claim.Claim.{Claim}
 use Rattle.claim_verdict.specs.declared.verdict.Verdict.TheVariants.{Agrees}
 use Rattle.claim_judge.specs.Judge.{IsVerdict, AgreesWithRun}
 use Rattle.claim_judge.proofs.Verdicts.{run_agrees}
-use Rattle.referee_top.specs.declared.answering.Reply.{Reply}
 use Rattle.referee_top.specs.declared.mode.RefereeMode as mode
-use Rattle.referee_top.specs.Answers.{IsAnswer, verdict_reply}
+use Rattle.referee_top.specs.Answers.{Reply, IsAnswer, verdict_reply}
 use Rattle.referee_top.proofs.Agreeing.{true-agrees}
 use Rattle.claim_agreement.specs.Claims.{IsClaimOf, IsClaimOfRun}
 

@@ -35,9 +35,8 @@ use Rattle.dn_top.specs.Documents.{HasTrace, shape_told}
 use Rattle.dn_top.specs.Laws.{Call}
 use Rattle.dn_top.specs.Runs.{HasFlatRun, IsRunOf, reported, shape_for}
 use Rattle.dn_top.specs.Serving.{HasDone, ForText, text_to_answer}
-use Rattle.referee_top.specs.declared.answering.Reply.{Reply}
 use Rattle.referee_top.specs.declared.mode.RefereeMode as referee
-use Rattle.referee_top.specs.Answers.{HasTold, IsAnswer, verdict_reply}
+use Rattle.referee_top.specs.Answers.{Reply, HasTold, IsAnswer, verdict_reply}
 use Rattle.referee_top.proofs.Agreeing.{true-agrees}
 use Rattle.referee_top.proofs.Fit.{one-program}
 use Rattle.claim_agreement.proofs.Agreeing.{loads-claimed}

@@ -1,7 +1,6 @@
 pub mod Answers
 pub mod Causes
 pub mod Documents
-pub mod ExitCodes
 pub mod Laws
 pub mod Runs
 pub mod Serving

@@ -7,7 +7,7 @@ use Rattle.account_text.specs.declared.form.Form.{Form}
 use Rattle.account_text.specs.Forms.{account_text}
 use Rattle.front_end.specs.Texts.{HasProgram}
 use Rattle.dn_top.specs.Documents.{shape_told}
-use Rattle.view_top.specs.declared.answering.Output.{Output}
+use Rattle.view_top.specs.Status.{Output}
 use Rattle.view_top.specs.declared.documents.KeptRun.{KeptRun}
 use Rattle.view_words.specs.declared.options.AccountOptions.{AccountOptions}
 use Rattle.view_top.specs.Answers.{heading_of, made, IsAccount, IsAccountOf}

@@ -20,7 +20,7 @@ use Rattle.dn_top.specs.Answers.{IsRefusedDocument}
 use Rattle.dn_top.specs.Documents.{shape_told, HasTrace, IsNoRun, IsRunTold}
 use Rattle.dn_top.specs.Runs.{IsPrintable}
 use Rattle.dn_top.proofs.OneProgram.{one-program}
-use Rattle.view_top.specs.declared.answering.Output.{Output}
+use Rattle.view_top.specs.Status.{Output}
 use Rattle.view_top.specs.declared.documents.KeptRun.{KeptRun}
 use Rattle.view_words.specs.declared.options.StateOptions.{StateOptions}
 use Rattle.view_top.specs.Answers.{HasKeptRun, IsStateShown}

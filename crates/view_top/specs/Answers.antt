@@ -29,11 +29,12 @@ use Rattle.reached_state.specs.declared.answer.StateAnswer.{StateAnswer}
 use Rattle.reached_state.specs.Reached.{IsAnswerOf}
 use Rattle.page_data.specs.declared.page.Page.{Page}
 use Rattle.page_data.specs.Page.{IsPageOf}
-use Rattle.front_end.specs.Texts.{HasChecked, IsUnfit, usage_line}
+use Rattle.front_end.specs.Texts.{HasChecked, IsUnfit}
+use Rattle.program_outside.specs.Serving.{usage_line}
 use Rattle.dn_top.specs.Answers.{IsRefusedDocument}
 use Rattle.dn_top.specs.Documents.{HasTrace, IsNoDocument, IsRunTold, shape_told}
 use Rattle.dn_top.specs.Runs.{reported}
-use Rattle.view_top.specs.declared.answering.Output.{Output}
+use Rattle.view_top.specs.Status.{Output}
 use Rattle.view_words.specs.declared.options.View.{View}
 use Rattle.view_words.specs.declared.options.View.TheVariants as view
 use Rattle.view_words.specs.declared.options.ChartOptions.{ChartOptions}

@@ -1,4 +1,3 @@
 pub mod Status
 pub mod Answers
 pub mod Kept
-pub mod Serving

@@ -14,7 +14,7 @@ mod timings;
 
 pub use answering::{Output, answer};
 pub use program::view_program;
-pub use serving::view_main;
+pub use serving::{Viewer, view_main};
 pub use status::ViewStatus;
 pub use view_words::{
     AccountOptions, ChartOptions, PageOptions, StateOptions, View, WordsFault, read_words,
