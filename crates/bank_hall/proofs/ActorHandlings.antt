@@ -14,7 +14,7 @@ use Rattle.phase_barrier.proofs.CountLemmas.{cores-kept}
 use Rattle.registry_bank.specs.Bank.{bank_gets}
 use Rattle.registry_bank.proofs.KeptLemmas.{place-kept}
 use Rattle.turn_lock.specs.History.{Legal}
-use Rattle.stamped_mail.specs.declared.posted.Posted.{Posted}
+use Rattle.grant_log.specs.declared.posted.Posted.{Posted}
 use Rattle.bank_hall.specs.declared.bank.Handled.{Handled}
 use Rattle.bank_hall.specs.declared.bank.BankIn as bank_in
 use Rattle.bank_hall.specs.declared.bank.BankIn.{BankIn}
@@ -22,8 +22,8 @@ use Rattle.bank_hall.specs.declared.port.PortIn as port_in
 use Rattle.bank_hall.specs.declared.port.PortIn.{PortIn}
 use Rattle.bank_hall.specs.declared.keeper.KeeperIn as keeper_in
 use Rattle.bank_hall.specs.declared.keeper.KeeperIn.{KeeperIn}
-use Rattle.stamped_mail.specs.Stamps.{is_early}
-use Rattle.stamped_mail.specs.Inbox.{picked_index, picked_out}
+use Rattle.grant_log.specs.Stamps.{is_early}
+use Rattle.grant_log.specs.Inbox.{picked_index, picked_out}
 use Rattle.bank_hall.specs.Note.{KeeperNote}
 use Rattle.bank_hall.specs.Banks as banks
 use Rattle.bank_hall.specs.Banks.{BankState, bank_actor, bank_handles, bank_stepped, bank_call}

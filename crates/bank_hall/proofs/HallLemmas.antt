@@ -1,6 +1,6 @@
 -- A post answers that the mail is kept, and a step or take something else.
 use Rattle.std.proofs.Common.{◌≡◌, ℕ, List, Option, subst, sym}
-use Rattle.stamped_mail.specs.declared.posted.Posted.{Posted}
+use Rattle.grant_log.specs.declared.posted.Posted.{Posted}
 use Rattle.bank_hall.specs.declared.bank.Handled.{Handled}
 use Rattle.bank_hall.specs.declared.bank.BankIn as bank_in
 use Rattle.bank_hall.specs.declared.bank.BankOut.{BankOut}

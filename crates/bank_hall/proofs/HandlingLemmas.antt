@@ -11,9 +11,9 @@ use Rattle.message_net.specs.declared.actor.Actor.{Actor}
 use Rattle.grant_log.specs.declared.log.Stamped.{Stamped}
 use Rattle.turn_lock.specs.declared.entry.Entry.{Entry}
 use Rattle.turn_lock.specs.History.{Legal}
-use Rattle.stamped_mail.specs.declared.posted.Posted.{Posted}
-use Rattle.stamped_mail.specs.Stamps.{stamp_after, handling_note}
-use Rattle.stamped_mail.specs.Inbox.{picked_out_at}
+use Rattle.grant_log.specs.declared.posted.Posted.{Posted}
+use Rattle.grant_log.specs.Stamps.{stamp_after, handling_note}
+use Rattle.grant_log.specs.Inbox.{picked_out_at}
 use Rattle.bank_hall.specs.Handlings.{Handling, AreStamped, GoesByMails, handlings_of}
 
 pub plus_zero : (n : ℕ) → n + 0 ≡ n

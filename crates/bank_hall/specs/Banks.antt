@@ -5,14 +5,14 @@ use Rattle.message_net.specs.declared.actor.Actor.TheVariants.{Bank}
 use Rattle.message_net.specs.declared.message.Outgoing.{Outgoing}
 use Rattle.message_net.specs.Mail.{mail_of}
 use Rattle.registry_bank.specs.Bank.{BankParts, bank_gets}
-use Rattle.stamped_mail.specs.declared.posted.Posted.{Posted}
+use Rattle.grant_log.specs.declared.posted.Posted.{Posted}
 use Rattle.bank_hall.specs.declared.bank.Handled.{Handled}
 use Rattle.bank_hall.specs.declared.bank.BankIn.{BankIn}
 use Rattle.bank_hall.specs.declared.bank.BankIn.TheVariants.{Post, Step}
 use Rattle.bank_hall.specs.declared.bank.BankOut.{BankOut}
 use Rattle.bank_hall.specs.declared.bank.BankOut.TheVariants.{Kept, Stepped}
-use Rattle.stamped_mail.specs.Stamps.{may_handle, stamp_after, handling_note}
-use Rattle.stamped_mail.specs.Inbox.{with_mail, picked_out}
+use Rattle.grant_log.specs.Stamps.{may_handle, stamp_after, handling_note}
+use Rattle.grant_log.specs.Inbox.{with_mail, picked_out}
 
 -- a bank, its inbox, the number of its next mail, and its clock
 pub record BankState : Type 0 where

@@ -6,7 +6,7 @@ use Rattle.std.specs.List.{AllPairs}
 use Rattle.message_net.specs.declared.actor.Actor.{Actor}
 use Rattle.grant_log.specs.declared.log.Stamped.{Stamped}
 use Rattle.turn_lock.specs.declared.entry.Entry.{Entry}
-use Rattle.stamped_mail.specs.declared.posted.Posted.{Posted}
+use Rattle.grant_log.specs.declared.posted.Posted.{Posted}
 use Rattle.bank_hall.specs.declared.bank.Handled.{Handled}
 use Rattle.bank_hall.specs.declared.bank.BankIn as bank_in
 use Rattle.bank_hall.specs.declared.bank.BankIn.{BankIn}
@@ -20,8 +20,8 @@ use Rattle.bank_hall.specs.declared.keeper.KeeperIn as keeper_in
 use Rattle.bank_hall.specs.declared.keeper.KeeperIn.{KeeperIn}
 use Rattle.bank_hall.specs.declared.keeper.KeeperOut as keeper_out
 use Rattle.bank_hall.specs.declared.keeper.KeeperOut.{KeeperOut}
-use Rattle.stamped_mail.specs.Stamps.{may_handle}
-use Rattle.stamped_mail.specs.Inbox.{picked_out}
+use Rattle.grant_log.specs.Stamps.{may_handle}
+use Rattle.grant_log.specs.Inbox.{picked_out}
 use Rattle.bank_hall.specs.Note.{KeeperNote}
 use Rattle.bank_hall.specs.Banks.{BankState, bank_handles, bank_steps}
 use Rattle.bank_hall.specs.Keepers.{KeeperState, keeper_handles, keeper_steps}

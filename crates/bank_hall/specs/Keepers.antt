@@ -4,13 +4,13 @@ use Rattle.message_net.specs.declared.actor.Actor.TheVariants.{Keeper}
 use Rattle.phase_barrier.specs.declared.keeper.Verdict.{Verdict}
 use Rattle.phase_barrier.specs.Barrier.{Barrier, keeper_gets}
 use Rattle.phase_barrier.specs.Letters.{letter_count}
-use Rattle.stamped_mail.specs.declared.posted.Posted.{Posted}
+use Rattle.grant_log.specs.declared.posted.Posted.{Posted}
 use Rattle.bank_hall.specs.declared.keeper.KeeperIn.{KeeperIn}
 use Rattle.bank_hall.specs.declared.keeper.KeeperIn.TheVariants.{Post, Step}
 use Rattle.bank_hall.specs.declared.keeper.KeeperOut.{KeeperOut}
 use Rattle.bank_hall.specs.declared.keeper.KeeperOut.TheVariants.{Kept, Stepped}
-use Rattle.stamped_mail.specs.Stamps.{may_handle, stamp_after, handling_note}
-use Rattle.stamped_mail.specs.Inbox.{with_mail, picked_out}
+use Rattle.grant_log.specs.Stamps.{may_handle, stamp_after, handling_note}
+use Rattle.grant_log.specs.Inbox.{with_mail, picked_out}
 use Rattle.bank_hall.specs.Note.{KeeperNote}
 
 -- a keeper, its inbox, the number of its next mail, and its clock

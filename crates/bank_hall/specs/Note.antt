@@ -6,7 +6,7 @@ use Rattle.message_net.specs.Mail.{mail_of}
 use Rattle.grant_log.specs.declared.log.Stamped.{Stamped}
 use Rattle.phase_barrier.specs.declared.keeper.Verdict.{Verdict}
 use Rattle.phase_barrier.specs.Letters.{letter_of, to_number}
-use Rattle.stamped_mail.specs.declared.posted.Posted.{Posted}
+use Rattle.grant_log.specs.declared.posted.Posted.{Posted}
 
 -- what was noted, the verdict, and the number of the first core's letter
 pub record KeeperNote : Type 0 where

@@ -1,12 +1,12 @@
 -- A core's inbox that callers share: what one call of it answers, and what it leaves.
 use Rattle.std.specs.Prelude.{ℕ, List, Option}
-use Rattle.stamped_mail.specs.declared.posted.Posted.{Posted}
+use Rattle.grant_log.specs.declared.posted.Posted.{Posted}
 use Rattle.bank_hall.specs.declared.port.PortIn.{PortIn}
 use Rattle.bank_hall.specs.declared.port.PortIn.TheVariants.{Post, Take}
 use Rattle.bank_hall.specs.declared.port.PortOut.{PortOut}
 use Rattle.bank_hall.specs.declared.port.PortOut.TheVariants.{Kept, Taken}
-use Rattle.stamped_mail.specs.Stamps.{is_early}
-use Rattle.stamped_mail.specs.Inbox.{with_mail, picked_out}
+use Rattle.grant_log.specs.Stamps.{is_early}
+use Rattle.grant_log.specs.Inbox.{with_mail, picked_out}
 
 -- an inbox, and for how many more mails it has room
 pub record PortParts : Type 0 where

@@ -3,10 +3,9 @@ ghost use Rattle.bank_hall.specs.Banks.{bank_steps, bank_call, bank_actor, reply
 
 use crate::row::crosses;
 use dn_base::Memory;
-use grant_log::Stamped;
+use grant_log::{Posted, Stamped, has_numbers_left, note, stamp_of, take_picked};
 use message_net::{Actor, Outgoing};
 use registry_bank::Bank;
-use stamped_mail::{Posted, has_numbers_left, note, stamp_of, take_picked};
 use std::marker::Model;
 use turn_lock::Object;
 

@@ -5,10 +5,9 @@ ghost use Rattle.phase_barrier.specs.Letters.{letter_count};
 
 use crate::row::crosses;
 use dn_base::{CoreId, Memory};
-use grant_log::Stamped;
+use grant_log::{Posted, Stamped, has_numbers_left, note, stamp_of, take_picked};
 use message_net::{Actor, Outgoing};
 use phase_barrier::{Keeper, Verdict};
-use stamped_mail::{Posted, has_numbers_left, note, stamp_of, take_picked};
 use std::marker::Model;
 use turn_lock::Object;
 

@@ -3,7 +3,7 @@
 ghost use Rattle.std.specs.Prelude.{◌≡◌, ◌≤◌, ◌<◌, ◌^◌, ◌+◌, ◌*◌, ℕ, List, length, filter_map, map, sum_by, All};
 ghost use Rattle.message_net.specs.declared.actor.Actor.TheVariants.{Keeper};
 ghost use Rattle.turn_lock.specs.History.{Legal};
-ghost use Rattle.stamped_mail.specs.declared.posted.Posted.{Posted};
+ghost use Rattle.grant_log.specs.declared.posted.Posted.{Posted};
 ghost use Rattle.bank_hall.specs.declared.bank.Handled.{Handled};
 ghost use Rattle.bank_hall.specs.Note.{KeeperNote};
 ghost use Rattle.bank_hall.specs.Banks.{BankState, bank_actor};

@@ -3,7 +3,7 @@ ghost use Rattle.bank_hall.specs.Ports.{port_call};
 
 use crate::row::crosses;
 use dn_base::Memory;
-use stamped_mail::{Posted, take_picked};
+use grant_log::{Posted, take_picked};
 use std::marker::Model;
 use turn_lock::Object;
 
@@ -61,7 +61,7 @@ impl Object for Port {
     type Out = PortOut;
 
     ghost use Rattle.std.specs.Prelude.{ℕ, List};
-    ghost use Rattle.stamped_mail.specs.declared.posted.Posted.{Posted as Mailed};
+    ghost use Rattle.grant_log.specs.declared.posted.Posted.{Posted as Mailed};
     ghost use Rattle.bank_hall.specs.Ports.{port_call};
 
     ghost Content = { List Mailed };

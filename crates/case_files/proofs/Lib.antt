@@ -1,1 +1,2 @@
 mod RepeatLemmas
+mod StandingLemmas

@@ -2,15 +2,14 @@ ghost use Rattle.command_words.specs.Command.{OptionsInRange};
 
 use crate::opening::{open, options_of, program};
 use crate::stepping::Stepping;
-use case_files::{Case, Trouble};
-use case_report::Comparison;
+use crate::{are_loads, is_same, replayed};
+use case_files::{Case, Comparison, Trouble};
 use command_words::{Mode, Options};
 use dn_machine::RunRecord;
 use effect_checker::Checked;
 use flat_machine::{TaskLoads, flat};
 use message_net::Event;
 use std::alloc::Global;
-use stepped_runs::{are_loads, is_same, replayed};
 
 /// Whether the events of a run, which the machine of these options makes once more, load what these tasks load, and nothing else.
 fn loads_alike(

@@ -1,11 +1,10 @@
 use crate::opening::{NO_MACHINE, open, options_of, program};
 use crate::stepping::Stepping;
-use case_files::{Case, ScriptLine, Stop, Trouble};
-use case_report::Written;
+use crate::{Played, ScriptedRun};
+use case_files::{Case, ScriptLine, Stop, Trouble, Written};
 use dn_base::Sequence;
 use dn_machine::RunRecord;
 use std::alloc::Global;
-use stepped_runs::{Played, ScriptedRun};
 
 /// What the program answered.
 #[derive(Drop)]
@@ -52,5 +51,5 @@ pub fn play(alloc: Global, case: &Case, script: &[ScriptLine]) -> Result<Got, St
         Ok(run) => run,
         Err(why) => return Err(Stop { place: 0, why }),
     };
-    Ok(answer(stepped_runs::play(run, script)?))
+    Ok(answer(crate::play(run, script)?))
 }

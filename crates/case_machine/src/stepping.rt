@@ -1,13 +1,13 @@
 ghost use Rattle.std.specs.Prelude.{◌≡◌, true, OnOk};
 ghost use Rattle.machine_rules.specs.Next.{next, enabled};
 
+use crate::EventMachine;
 use case_files::{BadForm, Trouble};
 use dn_base::{CoreId, WordId};
 use dn_machine::Machine;
 use machine_rules::Stepped;
 use message_net::{Actor, Event};
 use rv_core::TaskEnd;
-use stepped_runs::EventMachine;
 
 /// The most events of a machine.
 const MOST_EVENTS: u64 = 4_000_000_000;

@@ -2,12 +2,12 @@ ghost use Rattle.command_words.specs.Command.{OptionsInRange};
 
 use crate::opening::{open, options_of, program};
 use crate::stepping::Stepping;
+use crate::{PlaceTicks, is_slowest};
 use case_files::{Case, Trouble};
 use command_words::{Mode, Options};
 use effect_checker::Checked;
 use message_net::Event;
 use std::alloc::Global;
-use stepped_runs::{PlaceTicks, is_slowest};
 
 /// The ticks of each place that options ask for.
 fn ticks_of(options: &Options) -> PlaceTicks {

@@ -1,21 +1,21 @@
+mod ActorLemmas
+mod CoreEvents
+mod EndLists
+mod KeptLemmas
+pub mod LeftLemmas
 mod Letters
 mod ListItems
-mod OwnRow
 mod Listed
-mod CoreEvents
+pub mod LogLemmas
 mod MailEvents
-mod TriedLemmas
-pub mod LeftLemmas
-mod KeptLemmas
+mod Making
+mod Noted
+pub mod OneSetting
 mod Opened
-mod ActorLemmas
+mod OwnRow
 pub mod PartsLemmas
 pub mod PickLaws
-pub mod ScheduleLaws
-mod Noted
-mod Making
-mod Staying
-mod EndLists
-pub mod LogLemmas
 pub mod RunLemmas
-pub mod OneSetting
+pub mod ScheduleLaws
+mod Staying
+mod TriedLemmas

@@ -9,6 +9,7 @@ mod enabling;
 mod ends;
 mod events;
 mod forms;
+mod held;
 mod laws;
 mod log;
 mod machine;
@@ -26,6 +27,7 @@ mod trying;
 mod words;
 
 pub use draws::draw;
+pub use held::{pending_among, value_at};
 pub use laws::{
     a_complete_run_keeps_the_promises_of_runs, a_pick_is_an_event_that_may_come,
     a_seed_gives_one_complete_run,

@@ -5,8 +5,8 @@ ghost use Rattle.machine_rules.specs.Memory.{kept_value, word_value, memory_of};
 ghost use Rattle.dn_machine.specs.Content.{state_of};
 
 use crate::content::Content;
+use crate::{pending_among, value_at};
 use dn_base::{Memory, WordId, remainder};
-use node_words::{pending_among, value_at};
 use registration_protocol::Context;
 use registry_bank::BankWord;
 use std::alloc::Global;

@@ -15,8 +15,9 @@ use Rattle.command_words.specs.declared.options.Mode.{Mode}
 use Rattle.command_words.specs.declared.options.Mode as mode
 use Rattle.command_words.specs.declared.options.Options.{Options}
 use Rattle.dn_top.specs.declared.output.Output.{Output}
-use Rattle.dn_top.specs.Answers.{IsReplayed, IsRefusedDocument, done_in, refused_in, most_read}
-use Rattle.front_end.specs.Texts.{HasProgram, HasChecked, IsNoProgram, IsUnfit}
+use Rattle.checked_runs.specs.Documents.{IsRefusedDocument}
+use Rattle.dn_top.specs.Answers.{IsReplayed, done_in, refused_in, most_read}
+use Rattle.run_report.specs.Texts.{HasProgram, HasChecked, IsNoProgram, IsUnfit}
 use Rattle.program_outside.specs.Outside.{SourceState, IsRead}
 use Rattle.dn_top.specs.Serving.{text_by, text_to_answer, read_by, obtained_by, IsObtained}
 use Rattle.dn_top.proofs.OneReplay.{no-fault_of_document}

@@ -16,10 +16,11 @@ use Rattle.command_words.specs.declared.options.Mode as mode
 use Rattle.command_words.specs.declared.options.Options.{Options}
 use Rattle.dn_top.specs.declared.output.Output.{Output}
 use Rattle.dn_top.specs.Answers.{IsFlatRun, IsListing, IsProof, answered, done_in, refused_in, picks_events, IsRefusal, IsAnswer}
-use Rattle.dn_top.specs.Runs.{IsPrintedRun, IsTimedRun, reported, summed_up}
+use Rattle.checked_runs.specs.Runs.{reported, summed_up}
+use Rattle.dn_top.specs.Runs.{IsPrintedRun, IsTimedRun}
 use Rattle.dn_top.specs.Documents.{IsTracedRun}
 use Rattle.dn_top.specs.Laws.{IsDecided}
-use Rattle.dn_top.proofs.OneProgram.{program-or_fault, no_program-one, unfit-one, program-one, checked-one, checked-fit}
+use Rattle.run_report.proofs.OneProgram.{program-or_fault, no_program-one, unfit-one, program-one, checked-one, checked-fit}
 use Rattle.dn_top.proofs.OneRun.{one-output, timed-one}
 use Rattle.dn_top.proofs.OneProof.{one-proof}
 use Rattle.dn_top.proofs.OneReplay.{traced-one, replayed-one, refused_document-one, replayed-or_refused}

@@ -20,12 +20,14 @@ use Rattle.run_replay.proofs.Single.{one-trace, one-fault, reads}
 use Rattle.run_replay.proofs.UnderWay.{one-replay}
 use Rattle.command_words.specs.declared.options.Options.{Options}
 use Rattle.dn_top.specs.declared.output.Output.{Output}
-use Rattle.dn_top.specs.Answers.{IsReplayed, IsRefusedDocument}
-use Rattle.front_end.specs.Texts.{HasChecked, IsUnfit}
-use Rattle.dn_top.specs.Runs.{output_of_run, reported}
-use Rattle.dn_top.specs.Documents.{HasTrace, IsNoDocument, IsReplayIn, IsReplayedRun, IsNoRun, IsTracedRun, refused_by, shape_told, trace_of}
+use Rattle.checked_runs.specs.Documents.{IsRefusedDocument, HasTrace, IsNoDocument, IsReplayIn, IsNoRun, refused_by, shape_told}
+use Rattle.dn_top.specs.Answers.{IsReplayed}
+use Rattle.run_report.specs.Texts.{HasChecked, IsUnfit}
+use Rattle.checked_runs.specs.Runs.{reported}
+use Rattle.dn_top.specs.Runs.{output_of_run}
+use Rattle.dn_top.specs.Documents.{IsReplayedRun, IsTracedRun, trace_of}
 use Rattle.dn_top.proofs.OneRun.{one-record, one-run}
-use Rattle.dn_top.proofs.OneProgram.{one-program, unfit-one, checked-one, checked-fit}
+use Rattle.run_report.proofs.OneProgram.{one-program, unfit-one, checked-one, checked-fit}
 
 -- ---- the document of a run
 

@@ -29,9 +29,9 @@ use Rattle.dn_machine.specs.declared.record.RunRecord.{RunRecord}
 use Rattle.command_words.specs.declared.options.Mode.{Mode}
 use Rattle.dn_top.specs.declared.output.Output.{Output}
 use Rattle.dn_top.specs.Answers.{IsAnswer, IsProof, answered, done_in}
-use Rattle.front_end.specs.Texts.{HasChecked}
+use Rattle.run_report.specs.Texts.{HasChecked}
 use Rattle.dn_top.specs.Laws.{IsProvedInside, IsTameEnd, IsTameRun}
-use Rattle.dn_top.specs.Runs.{IsRunOf}
+use Rattle.checked_runs.specs.Runs.{IsRunOf}
 
 -- ---- the answer
 

@@ -6,11 +6,12 @@ use Rattle.effect_checker.specs.Checked.{IsChecked}
 use Rattle.run_replay.specs.declared.trace.Trace.{Trace}
 use Rattle.run_replay.specs.Document.{IsDocument}
 use Rattle.dn_top.specs.declared.output.Output.{Output}
-use Rattle.front_end.specs.declared.programs.Stop.{Stop}
-use Rattle.front_end.specs.declared.programs.Stop.TheVariants.{Refused, Memory}
-use Rattle.dn_top.specs.Answers.{IsReplayed, IsRefusedDocument}
-use Rattle.front_end.specs.Texts.{IsStop}
-use Rattle.dn_top.specs.Documents.{IsReplayedRun, IsNoRun}
+use Rattle.run_report.specs.declared.programs.Stop.{Stop}
+use Rattle.run_report.specs.declared.programs.Stop.TheVariants.{Refused, Memory}
+use Rattle.checked_runs.specs.Documents.{IsRefusedDocument, IsNoRun}
+use Rattle.dn_top.specs.Answers.{IsReplayed}
+use Rattle.run_report.specs.Texts.{IsStop}
+use Rattle.dn_top.specs.Documents.{IsReplayedRun}
 
 module _ (document text : List ℕ) (t : Trace) (P : ProgramParts) where
   pub run-replayed : (r : Result Output Stop) → IsDocument document t → text ≡ t.text → source text ≡ Ok P → IsChecked P → IfOk r (IsReplayedRun P t) → IfOk r (IsReplayed document)

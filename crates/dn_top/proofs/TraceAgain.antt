@@ -6,11 +6,13 @@ use Rattle.run_replay.specs.declared.replaying.Replayed.TheVariants.{Complete}
 use Rattle.command_words.specs.declared.options.Options.{Options}
 use Rattle.dn_top.specs.declared.output.Output.{Output}
 use Rattle.dn_top.specs.Answers.{IsReplayed}
-use Rattle.front_end.specs.Texts.{HasChecked}
-use Rattle.dn_top.specs.Runs.{IsPrintedRun, IsRunFor, output_of_run, reported}
-use Rattle.dn_top.specs.Documents.{IsTracedRun, IsReplayIn, IsReplayedRun, trace_of}
+use Rattle.run_report.specs.Texts.{HasChecked}
+use Rattle.checked_runs.specs.Runs.{reported}
+use Rattle.dn_top.specs.Runs.{IsPrintedRun, IsRunFor, output_of_run}
+use Rattle.checked_runs.specs.Documents.{IsReplayIn}
+use Rattle.dn_top.specs.Documents.{IsTracedRun, IsReplayedRun, trace_of}
 use Rattle.dn_top.proofs.OneRun.{one-run}
-use Rattle.dn_top.proofs.OneProgram.{one-program}
+use Rattle.run_report.proofs.OneProgram.{one-program}
 
 -- the replay of a run's document is that run, complete
 replay-of_run : (P : ProgramParts) (o : Options) (text : List ℕ) (r : RunRecord) → IsRunFor P o r → IsReplayIn P (trace_of o text r) (Complete r.ending r.grants r.counts)

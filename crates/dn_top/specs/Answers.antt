@@ -18,17 +18,19 @@ use Rattle.flat_machine.specs.Ending.{flat_end}
 use Rattle.run_report.specs.Answer.{answer_of}
 use Rattle.run_report.specs.Grants.{grant_lines}
 use Rattle.run_report.specs.Summary.{checked_of}
-use Rattle.front_end.specs.declared.programs.Stop.{Stop}
-use Rattle.front_end.specs.declared.programs.Stop as stop
-use Rattle.front_end.specs.Texts.{HasProgram, HasChecked, IsNoProgram, IsUnfit}
+use Rattle.run_report.specs.declared.programs.Stop.{Stop}
+use Rattle.run_report.specs.declared.programs.Stop as stop
+use Rattle.run_report.specs.Texts.{HasProgram, HasChecked, IsNoProgram, IsUnfit}
 use Rattle.command_words.specs.declared.options.Mode.{Mode}
 use Rattle.command_words.specs.declared.options.Mode as mode
 use Rattle.command_words.specs.declared.options.Options.{Options}
 use Rattle.dn_top.specs.declared.output.Output.{Output}
 use Rattle.dn_machine.specs.declared.record.RunRecord.{RunRecord}
-use Rattle.dn_top.specs.Causes.{IsCaused}
-use Rattle.dn_top.specs.Runs.{IsAnyRunFor, IsRunFor, IsPrintedRun, IsTimedRun, reported, summed_up}
-use Rattle.dn_top.specs.Documents.{IsTracedRun, HasTrace, IsNoDocument, IsReplayedRun, IsNoRun}
+use Rattle.checked_runs.specs.Causes.{IsCaused}
+use Rattle.checked_runs.specs.Runs.{reported, summed_up}
+use Rattle.dn_top.specs.Runs.{IsAnyRunFor, IsRunFor, IsPrintedRun, IsTimedRun}
+use Rattle.checked_runs.specs.Documents.{HasTrace, IsNoDocument, IsNoRun}
+use Rattle.dn_top.specs.Documents.{IsTracedRun, IsReplayedRun}
 
 -- ---- what is done with a program
 
@@ -63,11 +65,6 @@ pub record IsProof (program : ProgramParts) (out : Output) : Type 0 where
 -- the document's text has a checked program, and its events are a complete run, which is reported
 abbrev pub IsReplayed : List ℕ → Output → Type 0
 IsReplayed document out = HasTrace document (λ t. HasChecked t.text (λ P. IsReplayedRun P t out))
-
--- the bytes are no document, or its text has no program that may be run, or its events are no complete run; the line says why
-abbrev pub IsRefusedDocument : List ℕ → List ℕ → Type 0
-IsRefusedDocument document line =
-    IsNoDocument document line ⊎ HasTrace document (λ t. IsUnfit t.text line ⊎ HasChecked t.text (λ P. IsNoRun P t line))
 
 -- ---- the run of a text
 

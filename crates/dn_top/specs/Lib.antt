@@ -1,5 +1,4 @@
 pub mod Answers
-pub mod Causes
 pub mod Documents
 pub mod Laws
 pub mod Runs

@@ -17,8 +17,9 @@ use Rattle.program_outside.specs.declared.ends.Failure.{Failure}
 use Rattle.program_outside.specs.declared.ends.Output as outside
 use Rattle.dn_top.specs.declared.serving.Answer.{Answer}
 use Rattle.dn_top.specs.Answers.{most_read, makes_run, runs_tasks, IsDone as IsDoneIn, IsRefusal, IsAnswer, IsOutcome}
-use Rattle.dn_top.specs.Runs.{IsRunOf, IsRunFor}
-use Rattle.dn_top.specs.Documents.{shape_told}
+use Rattle.checked_runs.specs.Runs.{IsRunOf}
+use Rattle.dn_top.specs.Runs.{IsRunFor}
+use Rattle.checked_runs.specs.Documents.{shape_told}
 use Rattle.program_outside.specs.Serving.{usage_line, IsDone}
 use Rattle.program_outside.specs.Statuses.{status_told}
 use Rattle.program_outside.specs.Outside.{SourceState, Devices, SourceFailed, SinkFailed, GaveAtMost, IsUntouched, IsRead, IsFlushed, Took, TookFront}

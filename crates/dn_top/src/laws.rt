@@ -1,31 +1,16 @@
 //! Laws: what holds of every run. A law is a function without effect; its contract states the theorem.
-ghost use Rattle.std.specs.Prelude.{◌≡◌, ℕ, List, [], Some, Ok};
-ghost use Rattle.dn_base.specs.declared.ids.Grant.{Grant};
+ghost use Rattle.std.specs.Prelude.{◌≡◌, ℕ, List, Some, Ok};
 ghost use Rattle.dn_base.specs.declared.ids.Shape.{Shape};
 ghost use Rattle.region_table.specs.Program.{ProgramParts};
 ghost use Rattle.rv_assembler.specs.Source.{source};
-ghost use Rattle.flat_machine.specs.declared.ending.FlatEnd.{FlatEnd};
-ghost use Rattle.flat_machine.specs.Ending.{flat_end};
 ghost use Rattle.dn_machine.specs.declared.record.RunRecord.{RunRecord};
 ghost use Rattle.command_words.specs.declared.options.Mode.TheVariants.{Replay, Run, Trace};
 ghost use Rattle.command_words.specs.declared.options.Options.{Options};
 ghost use Rattle.dn_top.specs.declared.output.Output.{Output};
 ghost use Rattle.dn_top.specs.Answers.{IsAnswer, IsRefusal, done_in};
-ghost use Rattle.dn_top.specs.Causes.{IsCaused};
 ghost use Rattle.dn_top.specs.Laws.{Call, GaveOneOutput, IsTextAnswered, IsDecided, IsProvedInside, IsTameRun};
-ghost use Rattle.dn_top.specs.Runs.{IsRunFor, IsRunOf, output_of_run, reported};
-
-/// If a run is out of fuel or stuck, its tasks are the cause.
-pub fn an_outcome_has_its_cause()
-    ensures { (P : ProgramParts) (fuel : ℕ) (grants : List Grant) (end : FlatEnd)
-        → flat_end P fuel grants ≡ Some end → IsCaused P fuel grants end.ending }
-{}
-
-/// Without locks every run of a program ends in the same way, for all shapes of the machine, and however the events were
-/// picked.
-pub fn without_locks_every_run_ends_alike()
-    ensures { (P : ProgramParts) (machine other : Shape) (fuel : ℕ) (r s : RunRecord) → IsRunOf P machine fuel r → IsRunOf P other fuel s → P.locks ≡ [] → r.ending ≡ s.ending }
-{}
+ghost use Rattle.checked_runs.specs.Runs.{IsRunOf, reported};
+ghost use Rattle.dn_top.specs.Runs.{IsRunFor, output_of_run};
 
 /// If the mode prove has answered `proved inside` to a text, no run of its program has a task that ended by the trap `outside`:
 /// for all shapes of the machine and all fuels, and however the events were picked, by a seed, by workers or from a document.

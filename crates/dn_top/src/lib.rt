@@ -27,10 +27,9 @@ mod workers;
 
 pub use command_words::{Mode, Options, WordsFault, read_words};
 pub use dn_machine::RunRecord;
-pub use documents::{run_told, shape_told, trace_in};
 pub use laws::{
-    a_proven_text_runs_inside, a_trace_replays_as_its_run, an_outcome_has_its_cause,
-    the_output_is_a_function_of_source_and_options, without_locks_every_run_ends_alike,
+    a_proven_text_runs_inside, a_trace_replays_as_its_run,
+    the_output_is_a_function_of_source_and_options,
 };
 pub use program::{denovo_given, denovo_program};
 pub use serving::Answer;

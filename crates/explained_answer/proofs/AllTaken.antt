@@ -9,15 +9,15 @@ use Rattle.text_places.specs.declared.places.Located.{Located}
 use Rattle.text_pieces.specs.Pieces.{newline}
 use Rattle.run_replay.specs.Document.{title}
 use Rattle.run_replay.proofs.Forms.{head-parts}
-use Rattle.whole_answers.specs.declared.taken.Taken as taken
-use Rattle.whole_answers.specs.Fronts.{alike, line_behind}
-use Rattle.whole_answers.specs.Listing.{explained_lines}
-use Rattle.whole_answers.specs.Trace.{GoesWrongAt}
-use Rattle.whole_answers.proofs.Heads.{trace-taken}
-use Rattle.answer_lines.specs.declared.line.AnswerLine.{AnswerLine}
-use Rattle.answer_lines.specs.Lines.{answer_line}
-use Rattle.answer_lines.proofs.Fronts.{line-there, not-there, no-document-there}
-use Rattle.answer_lines.proofs.OneWay.{one-way}
+use Rattle.explained_answer.specs.declared.taken.Taken as taken
+use Rattle.explained_answer.specs.Fronts.{alike, line_behind}
+use Rattle.explained_answer.specs.Listing.{explained_lines}
+use Rattle.explained_answer.specs.Trace.{GoesWrongAt}
+use Rattle.explained_answer.proofs.Heads.{trace-taken}
+use Rattle.explained_answer.specs.declared.line.AnswerLine.{AnswerLine}
+use Rattle.explained_answer.specs.AnswerLines.{answer_line}
+use Rattle.explained_answer.proofs.LineFronts.{line-there, not-there, no-document-there}
+use Rattle.explained_answer.proofs.OneWay.{one-way}
 use Rattle.explained_answer.specs.declared.explaining.Explained.{Explained}
 use Rattle.explained_answer.specs.declared.explaining.Explained.TheVariants.{Text, Refused}
 use Rattle.explained_answer.specs.Lines.{IsLineOf, NoLineOf, fits_program, lines_and_sentences}

@@ -6,10 +6,10 @@ use Rattle.std.proofs.lemmas.List.Elements.{All-get_or}
 use Rattle.std.proofs.lemmas.Grind.{flat_map-append}
 use Rattle.dn_base.specs.declared.ids.Grant.{Grant}
 use Rattle.text_places.specs.declared.places.Located.{Located}
-use Rattle.answer_lines.specs.declared.line.AnswerLine.{AnswerLine}
-use Rattle.answer_lines.specs.declared.line.AnswerLine as line
+use Rattle.explained_answer.specs.declared.line.AnswerLine.{AnswerLine}
+use Rattle.explained_answer.specs.declared.line.AnswerLine as line
 use Rattle.explained_answer.specs.declared.reading.ReadLine.{ReadLine}
-use Rattle.answer_lines.specs.Lines.{answer_line}
+use Rattle.explained_answer.specs.AnswerLines.{answer_line}
 use Rattle.explained_answer.specs.Holders.{is_of_lock, last_grant, AreLastGrants, grant_on, answer_grants, holder_on, with_last_grant}
 use Rattle.explained_answer.specs.Lines.{has_task, has_named_lock, IsLineOf, line_read, lines_in, sentences_behind, explained_line}
 

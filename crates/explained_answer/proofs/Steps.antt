@@ -5,21 +5,21 @@ use Rattle.std.proofs.lemmas.Grind.{flat_map-append}
 use Rattle.std.proofs.lemmas.List.{append-nil, length-map, map-append}
 use Rattle.std.proofs.Math.Seq.{take-append_seam}
 use Rattle.text_places.specs.declared.places.Located.{Located}
-use Rattle.document_parts.specs.Field.{Stands}
+use Rattle.text_pieces.specs.Field.{Stands}
 use Rattle.text_pieces.specs.Pieces.{newline, space, hexadecimal}
 use Rattle.std.specs.Fmt.{decimal}
 use Rattle.run_report.specs.Answer.{outcome_word, outcome_line, end_text, task_line, words_line}
 use Rattle.run_report.specs.Grants.{grant_line}
 use Rattle.run_report.specs.Run.{event_word, counted_line}
-use Rattle.answer_lines.specs.declared.line.AnswerLine as line
-use Rattle.answer_lines.specs.declared.line.AnswerLine.{AnswerLine}
-use Rattle.answer_lines.specs.declared.line.Count as count
+use Rattle.explained_answer.specs.declared.line.AnswerLine as line
+use Rattle.explained_answer.specs.declared.line.AnswerLine.{AnswerLine}
+use Rattle.explained_answer.specs.declared.line.Count as count
 use Rattle.run_report.specs.Summary.{count_line}
 use Rattle.run_report.specs.Refusal.{refusal_of}
-use Rattle.answer_lines.specs.declared.line.FixedLine as fixed
-use Rattle.answer_lines.specs.Parts.{three_line}
-use Rattle.answer_lines.specs.Lines.{IsAnswerLine, answer_line, address_line, link_line, sum_line, unbounded_line}
-use Rattle.answer_lines.proofs.Forms.{word-is}
+use Rattle.explained_answer.specs.declared.line.FixedLine as fixed
+use Rattle.explained_answer.specs.Parts.{three_line}
+use Rattle.explained_answer.specs.AnswerLines.{IsAnswerLine, answer_line, address_line, link_line, sum_line, unbounded_line}
+use Rattle.explained_answer.proofs.Forms.{word-is}
 use Rattle.explained_answer.specs.declared.reading.ReadLine.{ReadLine}
 use Rattle.explained_answer.specs.Lines.{IsLineOf, NoLineOf, IsRefusedAt, line_read, lines_in, IsWritten, AreLinesRead, lines_and_sentences, AreAllLinesExplained}
 

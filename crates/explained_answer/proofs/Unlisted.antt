@@ -30,15 +30,15 @@ use Rattle.run_replay.specs.declared.trace.Trace.{Trace}
 use Rattle.run_replay.specs.Document.{title, head_of, event_lines}
 use Rattle.run_replay.proofs.Forms.{head-parts}
 use Rattle.text_places.specs.declared.places.Located.{Located}
-use Rattle.whole_answers.specs.Fronts.{alike, line_behind}
-use Rattle.whole_answers.specs.Trace.{IsTraceOf}
-use Rattle.answer_lines.specs.declared.line.AnswerLine as line
-use Rattle.answer_lines.specs.declared.line.AnswerLine.{AnswerLine}
-use Rattle.answer_lines.specs.declared.line.Count as count
-use Rattle.answer_lines.specs.declared.line.FixedLine as fixed
-use Rattle.answer_lines.specs.Parts.{three_line}
-use Rattle.answer_lines.specs.Lines.{IsAnswerLine, answer_line, address_line, link_line, sum_line, unbounded_line}
-use Rattle.answer_lines.proofs.Forms.{word-is}
+use Rattle.explained_answer.specs.Fronts.{alike, line_behind}
+use Rattle.explained_answer.specs.Trace.{IsTraceOf}
+use Rattle.explained_answer.specs.declared.line.AnswerLine as line
+use Rattle.explained_answer.specs.declared.line.AnswerLine.{AnswerLine}
+use Rattle.explained_answer.specs.declared.line.Count as count
+use Rattle.explained_answer.specs.declared.line.FixedLine as fixed
+use Rattle.explained_answer.specs.Parts.{three_line}
+use Rattle.explained_answer.specs.AnswerLines.{IsAnswerLine, answer_line, address_line, link_line, sum_line, unbounded_line}
+use Rattle.explained_answer.proofs.Forms.{word-is}
 use Rattle.explained_answer.specs.Explained.{IsNoListing}
 
 -- ---- the first three bytes

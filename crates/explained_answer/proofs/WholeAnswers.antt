@@ -7,10 +7,10 @@ use Rattle.effect_checker.specs.Faults.{IsLeastFault}
 use Rattle.rv_listing.specs.Listing.{listing_of}
 use Rattle.text_places.specs.declared.places.Located.{Located}
 use Rattle.run_replay.specs.declared.trace.Trace.{Trace}
-use Rattle.whole_answers.specs.declared.taken.Taken as taken
-use Rattle.whole_answers.specs.Listing.{explained_listing, first_other_line}
-use Rattle.whole_answers.specs.Trace.{IsTraceOf, IsTraceTaken}
-use Rattle.whole_answers.proofs.Heads.{trace-taken}
+use Rattle.explained_answer.specs.declared.taken.Taken as taken
+use Rattle.explained_answer.specs.Listing.{explained_listing, first_other_line}
+use Rattle.explained_answer.specs.Trace.{IsTraceOf, IsTraceTaken}
+use Rattle.explained_answer.proofs.Heads.{trace-taken}
 use Rattle.explained_answer.specs.declared.explaining.Explained.{Explained}
 use Rattle.explained_answer.specs.declared.explaining.Explained.TheVariants.{Text, Refused}
 use Rattle.explained_answer.specs.Explained.{IsLocated, HasNoConflict, IsNoListing, IsNoTrace, IsListingAnswer, IsTraceAnswer, IsExplained}

@@ -10,17 +10,17 @@ use Rattle.text_places.specs.declared.places.Located.{Located}
 use Rattle.text_places.specs.Places.{text_places}
 use Rattle.run_report.specs.declared.refusal.Refusal.TheVariants.{Source as OfSource, Check as OfCheck}
 use Rattle.run_report.specs.Refusal.{refusal_of}
-use Rattle.fault_sentences.specs.Sentences.{refusal_sentences}
-use Rattle.conflict_sentences.specs.Sentences.{conflict_sentences}
-use Rattle.whole_answers.specs.declared.taken.Taken as taken
-use Rattle.whole_answers.specs.Listing.{IsListingTaken}
-use Rattle.whole_answers.specs.Trace.{IsTraceTaken}
-use Rattle.document_parts.specs.Field.{Stands, NoneStands}
-use Rattle.answer_lines.specs.declared.line.AnswerLine as line
-use Rattle.answer_lines.specs.declared.line.AnswerLine.{AnswerLine}
-use Rattle.answer_lines.specs.declared.line.Count as count
-use Rattle.answer_lines.specs.declared.line.FixedLine as fixed
-use Rattle.answer_lines.specs.Lines.{IsAnswerLine, answer_line}
+use Rattle.sentences.specs.Faults.{refusal_sentences}
+use Rattle.sentences.specs.Conflicts.{conflict_sentences}
+use Rattle.explained_answer.specs.declared.taken.Taken as taken
+use Rattle.explained_answer.specs.Listing.{IsListingTaken}
+use Rattle.explained_answer.specs.Trace.{IsTraceTaken}
+use Rattle.text_pieces.specs.Field.{Stands, NoneStands}
+use Rattle.explained_answer.specs.declared.line.AnswerLine as line
+use Rattle.explained_answer.specs.declared.line.AnswerLine.{AnswerLine}
+use Rattle.explained_answer.specs.declared.line.Count as count
+use Rattle.explained_answer.specs.declared.line.FixedLine as fixed
+use Rattle.explained_answer.specs.AnswerLines.{IsAnswerLine, answer_line}
 use Rattle.explained_answer.specs.declared.explaining.Explained.{Explained}
 use Rattle.explained_answer.specs.declared.explaining.Explained as explained
 use Rattle.explained_answer.specs.Lines.{AreAllLinesExplained, IsRefusedAt}

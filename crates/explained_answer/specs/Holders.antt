@@ -3,8 +3,8 @@ use Rattle.std.specs.Prelude.{◌≡◌, ℕ, Bool, ◌==◌, List, [], ◌∷�
 use Rattle.dn_base.specs.declared.ids.Grant.{Grant}
 use Rattle.rv_core.specs.declared.ending.EndShown as shown
 use Rattle.rv_core.specs.declared.ending.EndShown.{EndShown}
-use Rattle.answer_lines.specs.declared.line.AnswerLine as line
-use Rattle.answer_lines.specs.declared.line.AnswerLine.{AnswerLine}
+use Rattle.explained_answer.specs.declared.line.AnswerLine as line
+use Rattle.explained_answer.specs.declared.line.AnswerLine.{AnswerLine}
 
 -- the grants in an answer, in order
 abbrev pub grant_on : AnswerLine → List Grant

@@ -1,3 +1,10 @@
+pub mod AnswerLines
+pub mod Answers
+pub mod Explained
+pub mod Fronts
 pub mod Holders
 pub mod Lines
-pub mod Explained
+pub mod Listing
+pub mod Parts
+pub mod Quotes
+pub mod Trace

@@ -5,19 +5,19 @@ use Rattle.region_table.specs.Program.{ProgramParts, tasks_of}
 use Rattle.std.specs.List.{All}
 use Rattle.std.specs.Option.{is_some}
 use Rattle.text_pieces.specs.Pieces.{newline}
-use Rattle.document_parts.specs.Field.{Stands, NoneStands}
+use Rattle.text_pieces.specs.Field.{Stands, NoneStands}
 use Rattle.text_places.specs.declared.places.Located.{Located}
 use Rattle.text_places.specs.declared.places.CodePlace.{CodePlace}
 use Rattle.text_places.specs.declared.places.TaskPlace.{TaskPlace}
 use Rattle.text_places.specs.declared.places.Places.{Places}
 use Rattle.text_places.specs.Words.{is_task_of}
-use Rattle.place_texts.specs.Texts.{code_text, lock_text, quoted_line, word_text}
-use Rattle.ending_sentences.specs.Sentences.{code_place_at, indent, ending_text}
-use Rattle.answer_lines.specs.declared.line.AnswerLine as line
-use Rattle.answer_lines.specs.declared.line.AnswerLine.{AnswerLine}
-use Rattle.answer_lines.specs.declared.line.Count as count
-use Rattle.answer_lines.specs.declared.line.Count.{Count}
-use Rattle.answer_lines.specs.Lines.{IsAnswerLine, answer_line}
+use Rattle.text_places.specs.Texts.{code_text, lock_text, quoted_line, word_text}
+use Rattle.sentences.specs.Endings.{code_place_at, indent, ending_text}
+use Rattle.explained_answer.specs.declared.line.AnswerLine as line
+use Rattle.explained_answer.specs.declared.line.AnswerLine.{AnswerLine}
+use Rattle.explained_answer.specs.declared.line.Count as count
+use Rattle.explained_answer.specs.declared.line.Count.{Count}
+use Rattle.explained_answer.specs.AnswerLines.{IsAnswerLine, answer_line}
 use Rattle.dn_base.specs.declared.ids.Grant.{Grant}
 use Rattle.explained_answer.specs.declared.reading.ReadLine.{ReadLine}
 use Rattle.explained_answer.specs.declared.reading.ReadAnswer.{ReadAnswer}

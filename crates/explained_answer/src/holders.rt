@@ -4,8 +4,8 @@ ghost use Rattle.dn_base.specs.declared.ids.Grant.{Grant as GrantValue};
 ghost use Rattle.explained_answer.specs.Holders.{answer_grants, core_if_in, holder_on, with_last_grant, AreLastGrants};
 ghost use Rattle.explained_answer.specs.Lines.{IsLineOf, lines_in};
 
+use crate::AnswerLine;
 use crate::reading::ReadLine;
-use answer_lines::AnswerLine;
 use dn_base::{Grant, Memory};
 use rv_core::EndShown;
 use std::alloc::Global;

@@ -2,10 +2,33 @@
 #![tactic(auto)]
 
 mod explaining;
+mod fronts;
 mod holders;
+mod line;
+mod line_laws;
+mod line_parsing;
 mod lines;
+mod listing;
+mod long;
+mod numbers;
+mod programs;
+mod quotes;
 mod reading;
 mod refusals;
+mod shape;
+mod taken;
+mod tasks;
+mod timing;
+mod trace;
+mod trace_laws;
 mod wholes;
+mod words;
 
 pub use explaining::{Explained, explain};
+pub use line::{AnswerLine, Count, FixedLine, Link};
+pub use line_laws::{a_line_is_read_in_one_way, printed_answers_are_lines};
+pub use line_parsing::read_line;
+pub use listing::take_listing;
+pub use taken::Taken;
+pub use trace::take_trace;
+pub use trace_laws::a_trace_of_the_text_is_taken;

@@ -1,18 +1,19 @@
 //! The lines of the answer of a run.
 ghost use Rattle.std.specs.Prelude.{◌≡◌, ◌++◌, All, OnOk, IfOk};
-ghost use Rattle.answer_lines.specs.Lines.{answer_line};
-ghost use Rattle.ending_sentences.specs.Sentences.{code_place_at};
+ghost use Rattle.explained_answer.specs.AnswerLines.{answer_line};
+ghost use Rattle.sentences.specs.Endings.{code_place_at};
 ghost use Rattle.explained_answer.specs.Lines.{named_word, named_lock, which_line, declared_there, task_there, the_instruction, stands_there, instruction_there, unproven_text, sentences_behind, lines_and_sentences, IsLineOf, IsWritten, lines_in};
 
+use crate::AnswerLine;
 use crate::holders::{holder_on, last_grants};
 use crate::reading::ReadLine;
-use answer_lines::AnswerLine;
 use dn_base::Memory;
-use ending_sentences::push_ending;
-use place_texts::{push_code_place, push_lock, push_quoted_line, push_word};
+use sentences::push_ending;
 use std::alloc::Global;
 use text_pieces::{push, push_decimal};
-use text_places::{CodePlace, Located, Places, TaskPlace};
+use text_places::{
+    CodePlace, Located, Places, TaskPlace, push_code_place, push_lock, push_quoted_line, push_word,
+};
 
 /// The address of code word 0.
 const FIRST_CODE_ADDRESS: u32 = 0x1000;

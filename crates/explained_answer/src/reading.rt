@@ -1,12 +1,12 @@
 //! The lines of an answer, read: which lines an answer of a program may have.
 ghost use Rattle.std.specs.Prelude.{◌≡◌, ◌==◌, ◌+◌, length, IfOk, IfSome, IfNone};
-ghost use Rattle.document_parts.specs.Field.{Stands};
-ghost use Rattle.answer_lines.specs.Lines.{answer_line};
+ghost use Rattle.text_pieces.specs.Field.{Stands};
+ghost use Rattle.explained_answer.specs.AnswerLines.{answer_line};
 ghost use Rattle.region_table.specs.Program.{tasks_of};
 ghost use Rattle.explained_answer.specs.Lines.{has_task, has_named_lock, is_size_of, count_is_of, fits_program, IsLineOf, NoLineOf, IsWritten, IsAnswerRead};
 
 use crate::lines::code_place_at;
-use answer_lines::{AnswerLine, Count, read_line};
+use crate::{AnswerLine, Count, read_line};
 use dn_base::Memory;
 use region_table::{Phase, Program};
 use std::alloc::Global;

@@ -4,18 +4,17 @@ ghost use Rattle.rv_assembler.specs.declared.fault.SourceFault.TheVariants.{Memo
 ghost use Rattle.rv_assembler.specs.Source.{source};
 ghost use Rattle.run_report.specs.declared.refusal.Refusal.TheVariants.{Source as OfSource, Check as OfCheck};
 ghost use Rattle.run_report.specs.Refusal.{refusal_of};
-ghost use Rattle.fault_sentences.specs.Sentences.{refusal_sentences};
-ghost use Rattle.conflict_sentences.specs.Sentences.{conflict_sentences};
+ghost use Rattle.sentences.specs.Faults.{refusal_sentences};
+ghost use Rattle.sentences.specs.Conflicts.{conflict_sentences};
 ghost use Rattle.explained_answer.specs.Explained.{is_before_text, IsBeforeText, IsNotBeforeText, IsOtherAnswer, IsRefusalExplained};
 
 use crate::explaining::Explained;
-use answer_lines::{AnswerLine, Count, FixedLine, read_line};
-use conflict_sentences::push_conflict;
+use crate::{AnswerLine, Count, FixedLine, read_line};
 use dn_base::{Memory, Sequence};
 use effect_checker::CheckFault;
-use fault_sentences::push_refusal;
 use run_report::{Refusal, refusal_line};
 use rv_assembler::SourceFault;
+use sentences::{push_conflict, push_refusal};
 use std::alloc::Global;
 use text_places::Located;
 

@@ -3,10 +3,10 @@ ghost use Rattle.std.specs.Prelude.{◌≤◌, length, IfOk, MatchOption};
 ghost use Rattle.explained_answer.specs.Explained.{IsNoListing, IsNoTrace, IsListingAnswer, IsTraceAnswer};
 
 use crate::explaining::Explained;
+use crate::{Taken, take_listing, take_trace};
 use dn_base::{Memory, Sequence};
 use std::alloc::Global;
 use text_places::Located;
-use whole_answers::{Taken, take_listing, take_trace};
 
 /// Explains an answer that is the listing of the text's program, or begins as it; None if its first line differs.
 pub(crate) fn explained_listing(

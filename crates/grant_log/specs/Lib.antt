@@ -1,3 +1,5 @@
-pub mod Order
-pub mod Log
 pub mod Counts
+pub mod Inbox
+pub mod Log
+pub mod Order
+pub mod Stamps

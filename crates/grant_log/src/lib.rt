@@ -8,6 +8,7 @@
 mod counts;
 mod laws;
 mod log;
+mod posted;
 
 pub use counts::Counts;
 pub use laws::{
@@ -15,3 +16,4 @@ pub use laws::{
     stamps_come_first,
 };
 pub use log::{Stamped, grants, merge};
+pub use posted::{Posted, has_numbers_left, note, stamp_of, take_picked};

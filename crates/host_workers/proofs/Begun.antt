@@ -10,10 +10,10 @@ use Rattle.grant_log.specs.declared.log.Stamped.{Stamped}
 use Rattle.registration_protocol.specs.Node.{NodeParts, Setting}
 use Rattle.registration_protocol.specs.OwnEvents.{own_event}
 use Rattle.machine_rules.specs.State.{State}
-use Rattle.stamped_mail.specs.declared.posted.Posted.{Posted}
+use Rattle.grant_log.specs.declared.posted.Posted.{Posted}
 use Rattle.bank_hall.specs.declared.bank.Handled.{Handled}
 use Rattle.bank_hall.specs.Note.{KeeperNote}
-use Rattle.stamped_mail.specs.Stamps.{has_numbers_left}
+use Rattle.grant_log.specs.Stamps.{has_numbers_left}
 use Rattle.round_rules.specs.Members.{ActorParts, NodeIs, Member}
 use Rattle.round_rules.specs.Steps.{Done, Goes, clock_after}
 use Rattle.round_rules.specs.Acts.{Act, Stepped, Kept, is_act_of}

@@ -6,7 +6,7 @@ use Rattle.std.proofs.lemmas.List.{append_assoc, append-nil, length-append}
 use Rattle.std.proofs.lemmas.List.Elements.{filter_map-append}
 use Rattle.dn_base.specs.declared.ids.Shape.{Shape}
 use Rattle.registration_protocol.specs.Node.{Setting}
-use Rattle.stamped_mail.specs.declared.posted.Posted.{Posted}
+use Rattle.grant_log.specs.declared.posted.Posted.{Posted}
 use Rattle.bank_hall.specs.Note.{KeeperNote, letter_to}
 use Rattle.bank_hall.specs.Rows.{made_of}
 use Rattle.bank_hall.specs.Halls.{PassView, Calls, HasMadeCalls, pass_number}

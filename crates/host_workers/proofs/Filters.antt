@@ -11,7 +11,7 @@ use Rattle.message_net.proofs.PoolLemmas.{same_actor-true}
 use Rattle.registration_protocol.specs.Node.{Setting}
 use Rattle.round_rules.specs.Acts.{Act, Took, Made, Stepped, Kept, is_act_of, core_step, events_in, note_of}
 use Rattle.round_rules.specs.Steps.{Goes, clock_after}
-use Rattle.stamped_mail.specs.Stamps.{has_numbers_left}
+use Rattle.grant_log.specs.Stamps.{has_numbers_left}
 use Rattle.round_rules.specs.Passes.{Held, HasGone, IsCorePass, end_seen, held_member, own_acts}
 use Rattle.registration_protocol.specs.OwnEvents.{own_event}
 use Rattle.host_workers.specs.Deeds.{HasMoved, step_note, step_end}

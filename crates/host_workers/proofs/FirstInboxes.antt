@@ -11,7 +11,7 @@ use Rattle.message_net.specs.Id.{same_actor}
 use Rattle.message_net.proofs.PoolLemmas.{same_actor-true}
 use Rattle.machine_rules.specs.Flight.{bit}
 use Rattle.registration_protocol.specs.Node.{Setting}
-use Rattle.stamped_mail.specs.declared.posted.Posted.{Posted}
+use Rattle.grant_log.specs.declared.posted.Posted.{Posted}
 use Rattle.bank_hall.specs.Halls.{IsInboxOf}
 use Rattle.round_rules.specs.Members.{IsIn}
 use Rattle.round_rules.specs.Steps.{with_stamp}

@@ -6,7 +6,7 @@ use Rattle.message_net.specs.declared.message.Message.{Message}
 use Rattle.message_net.specs.declared.message.Outgoing.{Outgoing}
 use Rattle.registry_bank.specs.Bank.{BankParts, bank_gets}
 use Rattle.phase_barrier.specs.Barrier.{keeper_gets}
-use Rattle.stamped_mail.specs.declared.posted.Posted.{Posted}
+use Rattle.grant_log.specs.declared.posted.Posted.{Posted}
 use Rattle.bank_hall.specs.declared.bank.Handled.{Handled}
 use Rattle.bank_hall.specs.declared.bank.BankIn as bank_in
 use Rattle.bank_hall.specs.declared.bank.BankOut.{BankOut}
@@ -17,8 +17,8 @@ use Rattle.bank_hall.specs.declared.port.PortOut as port_out
 use Rattle.bank_hall.specs.declared.keeper.KeeperIn as keeper_in
 use Rattle.bank_hall.specs.declared.keeper.KeeperOut.{KeeperOut}
 use Rattle.bank_hall.specs.declared.keeper.KeeperOut as keeper_out
-use Rattle.stamped_mail.specs.Inbox.{picked_index, picked_out, picked_out_at}
-use Rattle.stamped_mail.specs.Stamps.{is_early, may_handle, stamp_after}
+use Rattle.grant_log.specs.Inbox.{picked_index, picked_out, picked_out_at}
+use Rattle.grant_log.specs.Stamps.{is_early, may_handle, stamp_after}
 use Rattle.bank_hall.specs.Note.{KeeperNote, letter_with, letter_to}
 use Rattle.phase_barrier.specs.Letters.{letter_of}
 use Rattle.bank_hall.specs.Banks.{BankState, bank_actor, reply_of, bank_row, bank_handles, bank_call}

@@ -12,7 +12,7 @@ use Rattle.registration_protocol.specs.Node.{Setting}
 use Rattle.machine_rules.specs.State.{State}
 use Rattle.machine_rules.specs.Next.{next_number}
 use Rattle.machine_rules.specs.Sound.{IsMachine}
-use Rattle.stamped_mail.specs.declared.posted.Posted.{Posted}
+use Rattle.grant_log.specs.declared.posted.Posted.{Posted}
 use Rattle.turn_lock.specs.History.{Legal}
 use Rattle.turn_lock.specs.Passes.{Sharing}
 use Rattle.bank_hall.specs.Banks.{BankActorParts}

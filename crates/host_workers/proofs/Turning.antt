@@ -11,13 +11,13 @@ use Rattle.registration_protocol.specs.Node.{Setting}
 use Rattle.registration_protocol.specs.Fit.{Fits}
 use Rattle.registration_protocol.specs.OwnEvents.{own_event}
 use Rattle.bank_hall.specs.declared.bank.Handled.{Handled}
-use Rattle.stamped_mail.specs.declared.posted.Posted.{Posted}
+use Rattle.grant_log.specs.declared.posted.Posted.{Posted}
 use Rattle.bank_hall.specs.Note.{KeeperNote}
 use Rattle.bank_hall.specs.Halls.{PassView, HasMadeCalls, pass_number}
 use Rattle.round_rules.specs.Acts.{Act, Took, Made, Stepped, Kept, core_step, try_calls, postings, keeper_done}
 use Rattle.round_rules.specs.Members.{Handles, Makes}
 use Rattle.round_rules.specs.Steps.{Done}
-use Rattle.stamped_mail.specs.Stamps.{has_numbers_left}
+use Rattle.grant_log.specs.Stamps.{has_numbers_left}
 use Rattle.round_rules.specs.Passes.{Held, own_acts, taken_steps}
 use Rattle.host_workers.specs.declared.crew.BankLog.{BankLog}
 use Rattle.host_workers.specs.declared.owned.Owned.{Owned}

@@ -7,7 +7,7 @@ use Rattle.dn_base.specs.declared.ids.CoreId.{CoreId}
 use Rattle.grant_log.specs.declared.log.Stamped.{Stamped}
 use Rattle.registration_protocol.specs.Fit.{Fits}
 use Rattle.registration_protocol.specs.Node.{Setting}
-use Rattle.stamped_mail.specs.Stamps.{has_numbers_left}
+use Rattle.grant_log.specs.Stamps.{has_numbers_left}
 use Rattle.round_rules.specs.Passes.{Held}
 use Rattle.host_workers.specs.declared.crew.BankLog.{BankLog}
 use Rattle.host_workers.specs.declared.crew.Crew.{Crew}

@@ -8,7 +8,7 @@ use Rattle.message_net.specs.declared.event.Event.{Event}
 use Rattle.message_net.specs.declared.event.EventKind.{EventKind}
 use Rattle.message_net.specs.Mail.{mails_of}
 use Rattle.registration_protocol.specs.Node.{NodeParts, Setting}
-use Rattle.stamped_mail.specs.declared.posted.Posted.{Posted}
+use Rattle.grant_log.specs.declared.posted.Posted.{Posted}
 use Rattle.round_rules.specs.declared.end_seen.EndSeen.{EndSeen}
 use Rattle.round_rules.specs.Members.{Deed, Makes, Came, NodeIs}
 use Rattle.round_rules.specs.Steps.{Done, Step, Goes, clock_after, deed_stamp, done_of, with_stamp}

@@ -8,7 +8,7 @@ use Rattle.message_net.specs.declared.message.Mail.{Mail}
 use Rattle.message_net.specs.Id.{same_actor}
 use Rattle.phase_barrier.specs.Barrier.{Barrier}
 use Rattle.registry_bank.specs.Bank.{BankParts}
-use Rattle.stamped_mail.specs.declared.posted.Posted.{Posted}
+use Rattle.grant_log.specs.declared.posted.Posted.{Posted}
 use Rattle.bank_hall.specs.Banks.{BankActorParts}
 use Rattle.bank_hall.specs.Ports.{PortParts}
 use Rattle.bank_hall.specs.Keepers.{KeeperActorParts}

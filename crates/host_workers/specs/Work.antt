@@ -10,12 +10,12 @@ use Rattle.registration_protocol.specs.Node.{Setting}
 use Rattle.registration_protocol.specs.Fit.{IsContext, Fits}
 use Rattle.registration_protocol.specs.OwnEvents.{own_event}
 use Rattle.bank_hall.specs.declared.bank.Handled.{Handled}
-use Rattle.stamped_mail.specs.declared.posted.Posted.{Posted}
+use Rattle.grant_log.specs.declared.posted.Posted.{Posted}
 use Rattle.bank_hall.specs.Note.{KeeperNote}
 use Rattle.bank_hall.specs.Halls.{HallView, PassView, Calls, IsHallPass, HasMadeCalls, pass_number}
 use Rattle.round_rules.specs.Acts.{Act, Took, Stepped, Kept, actor_of, core_step, act_done, events_in, note_of, posted_by, postings, calls_in}
 use Rattle.round_rules.specs.Steps.{Done}
-use Rattle.stamped_mail.specs.Stamps.{has_numbers_left}
+use Rattle.grant_log.specs.Stamps.{has_numbers_left}
 use Rattle.round_rules.specs.Passes.{Held, own_acts, taken_steps}
 use Rattle.host_workers.specs.declared.crew.BankLog.{BankLog}
 use Rattle.host_workers.specs.declared.owned.Owned.{Owned}

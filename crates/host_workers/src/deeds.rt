@@ -7,10 +7,10 @@ ghost use Rattle.round_rules.specs.Members.{Handles, Makes, NodeIs, comes_of};
 ghost use Rattle.host_workers.specs.Deeds.{came_with};
 
 use dn_base::{Grant, WordId};
+use grant_log::Posted;
 use message_net::{Event, Outgoing};
 use registration_protocol::{Context, Node, an_own_event_may_come};
 use rv_core::TaskEnd;
-use stamped_mail::Posted;
 
 /// The result of a node's event: the lock that was granted, the message that is sent, and how the task of a node that arrived
 /// had ended.

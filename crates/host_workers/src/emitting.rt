@@ -7,7 +7,7 @@ ghost use Rattle.host_workers.specs.Work.{HasBegunPosts};
 use crate::stamps::has_actor;
 use bank_hall::{Hall, KeeperHandled, Pass};
 use dn_base::{CoreId, Memory, Shape};
-use stamped_mail::Posted;
+use grant_log::Posted;
 use std::sync::Wait;
 
 /// Posts a mail, if it goes to an actor of the hall.

@@ -7,10 +7,10 @@ ghost use Rattle.host_workers.specs.Inboxes.{inboxes_of, put_at, put_in, AreFirs
 
 use bank_hall::{BankActor, HallParts, KeeperActor, Port};
 use dn_base::{BankId, CoreId, Memory, Shape};
+use grant_log::Posted;
 use message_net::{Actor, Pool};
 use phase_barrier::Keeper;
 use registry_bank::Bank;
-use stamped_mail::Posted;
 use std::alloc::Global;
 
 /// The inboxes of the cores and of the banks in the order of their numbers, and the keeper's.

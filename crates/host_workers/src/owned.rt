@@ -13,12 +13,11 @@ ghost use Rattle.host_workers.specs.Deeds.{HasMoved, IsNoted, IsEarly, step_of_d
 
 use crate::deeds::{NodeCame, act, receive};
 use dn_base::{CoreId, Memory};
-use grant_log::Stamped;
+use grant_log::{Posted, Stamped, has_numbers_left, stamp_of};
 use message_net::{Actor, Event, EventKind, Outgoing};
 use registration_protocol::{Context, Node};
 use round_rules::EndSeen;
 use rv_core::TaskEnd;
-use stamped_mail::{Posted, has_numbers_left, stamp_of};
 
 /// A core that a worker owns: its node, its clock, the number of its next mail, the notes of its events, and the ends of the
 /// tasks with which it arrived.

@@ -13,7 +13,7 @@ use Rattle.rv_core.specs.Ending.{shown_end}
 use Rattle.rv_listing.specs.Instruction.{code_line}
 use Rattle.text_places.specs.declared.places.Located.{Located}
 use Rattle.text_places.specs.declared.places.CodePlace.{CodePlace}
-use Rattle.place_texts.specs.Texts.{word_text, lock_text, code_text}
+use Rattle.text_places.specs.Texts.{word_text, lock_text, code_text}
 use Rattle.message_chart.specs.declared.chart.About.{About}
 use Rattle.message_chart.specs.declared.chart.About.TheVariants as about
 use Rattle.message_chart.specs.declared.chart.Chart.{Chart}

@@ -3,20 +3,19 @@ ghost use Rattle.std.specs.Prelude.{◌≡◌, ◌++◌, ◌-◌, codes, slice_g
 ghost use Rattle.std.specs.Fmt.{decimal};
 ghost use Rattle.text_pieces.specs.Pieces.{space};
 ghost use Rattle.run_report.specs.Run.{event_word};
-ghost use Rattle.place_texts.specs.Texts.{lock_text, word_text};
+ghost use Rattle.text_places.specs.Texts.{lock_text, word_text};
 ghost use Rattle.message_chart.specs.Labels.{actor_name, actors_text, caches_text, change_text, code_label, events_text, instruction_text, label_text, machine_text, named, state_words, task_end_text, title_begin, title_text, valued, waiting_text};
 
 use crate::chart::{About, Chart, ChartRow};
 use crate::states::{WordChange, WordState};
 use dn_base::{LockId, Memory, PhaseId, Shape, WordId};
 use message_net::{Actor, EventKind};
-use place_texts::{push_code_place, push_lock, push_word};
 use run_report::{event_name, push_end};
 use rv_core::{End, EndShown};
 use rv_listing::push_code_word;
 use text_pieces::Piece::{Bytes, Number};
 use text_pieces::{push, push_pieces, to_hexadecimal};
-use text_places::{CodePlace, Located};
+use text_places::{CodePlace, Located, push_code_place, push_lock, push_word};
 
 /// Adds a name and a number.
 #[tactic(auto, unfolding(crate::specs::Labels::named))]

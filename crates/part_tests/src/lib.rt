@@ -2,16 +2,36 @@
 #![tactic(auto)]
 
 #[cfg(test)]
+mod answers;
+#[cfg(test)]
 mod banks;
 #[cfg(test)]
 mod barriers;
 #[cfg(test)]
 mod caches;
 #[cfg(test)]
+mod flat;
+#[cfg(test)]
+mod halls;
+#[cfg(test)]
 mod locks;
 #[cfg(test)]
 mod logs;
 #[cfg(test)]
+mod machine;
+#[cfg(test)]
 mod mails;
 #[cfg(test)]
+mod phases;
+#[cfg(test)]
 mod signatures;
+#[cfg(test)]
+mod talks;
+#[cfg(test)]
+mod tasks;
+#[cfg(test)]
+mod texts;
+#[cfg(test)]
+mod turns;
+#[cfg(test)]
+mod works;

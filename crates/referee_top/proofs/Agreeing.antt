@@ -3,19 +3,19 @@ use Rattle.std.proofs.Common.{◌≡◌, ◌≢◌, inl, inr, ◌↔◌, ℕ, Li
 use Rattle.region_table.specs.Program.{ProgramParts}
 use Rattle.rv_assembler.specs.Source.{source}
 use Rattle.effect_checker.specs.Checked.{IsChecked}
-use Rattle.claim_document.specs.declared.claim.Claim.{Claim}
-use Rattle.claim_document.specs.declared.claim.GrantOrder.{GrantOrder}
-use Rattle.claim_document.specs.declared.claim.Question.{Question}
-use Rattle.claim_document.specs.Claim.{IsClaimDocument, claim_text}
-use Rattle.claim_document.proofs.Single.{one-claim, claim-fault}
-use Rattle.claim_verdict.specs.declared.verdict.Verdict.{Verdict}
-use Rattle.claim_verdict.specs.declared.verdict.Verdict.TheVariants.{Agrees as SaysAgrees, Grants, Tasks, Load, Answer}
-use Rattle.claim_judge.specs.declared.right.RightClaim.{RightClaim}
-use Rattle.claim_judge.specs.declared.right.RightClaim.TheVariants.{Whole, Refused as RefusedAt}
-use Rattle.claim_judge.specs.Judge.{IsVerdict, AgreesWithRun}
-use Rattle.claim_judge.specs.Right.{IsRightClaim, IsRightBy}
-use Rattle.claim_judge.proofs.Verdicts.{one_verdict, run_agrees, agrees_run, right_agrees}
-use Rattle.front_end.specs.Texts.{HasChecked, IsUnfit}
+use Rattle.claims.specs.declared.claim.Claim.{Claim}
+use Rattle.claims.specs.declared.claim.GrantOrder.{GrantOrder}
+use Rattle.claims.specs.declared.claim.Question.{Question}
+use Rattle.claims.specs.Claim.{IsClaimDocument, claim_text}
+use Rattle.claims.proofs.Single.{one-claim, claim-fault}
+use Rattle.claims.specs.declared.verdict.Verdict.{Verdict}
+use Rattle.claims.specs.declared.verdict.Verdict.TheVariants.{Agrees as SaysAgrees, Grants, Tasks, Load, Answer}
+use Rattle.claims.specs.declared.right.RightClaim.{RightClaim}
+use Rattle.claims.specs.declared.right.RightClaim.TheVariants.{Whole, Refused as RefusedAt}
+use Rattle.claims.specs.Judge.{IsVerdict, AgreesWithRun}
+use Rattle.claims.specs.Right.{IsRightClaim, IsRightBy}
+use Rattle.claims.proofs.Verdicts.{one_verdict, run_agrees, agrees_run, right_agrees}
+use Rattle.run_report.specs.Texts.{HasChecked, IsUnfit}
 use Rattle.referee_top.proofs.Fit.{one-program, checked-fit}
 use Rattle.referee_top.specs.declared.mode.RefereeMode.{RefereeMode}
 use Rattle.referee_top.specs.declared.mode.RefereeMode as mode

@@ -10,7 +10,7 @@ use Rattle.effect_checker.specs.Checked.{IsCheckedPhase, IsChecked}
 use Rattle.effect_checker.specs.Faults.{fault_phase, phase_at, IsFault, IsFaultAmong}
 use Rattle.effect_checker.specs.declared.fault.CheckFault.{CheckFault}
 use Rattle.effect_checker.specs.declared.fault.CheckFault.TheVariants.{PlainConflict, GuardedPlain, TwoLocks}
-use Rattle.front_end.specs.Texts.{HasChecked, IsUnfit}
+use Rattle.run_report.specs.Texts.{HasChecked, IsUnfit}
 
 -- ---- a checked program has no conflict
 

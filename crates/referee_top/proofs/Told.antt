@@ -3,9 +3,9 @@ use Rattle.std.proofs.Common.{◌≡◌, ℕ, List, Result, Ok, Err, IfOk, IfErr
 use Rattle.region_table.specs.Program.{ProgramParts}
 use Rattle.rv_assembler.specs.Source.{source}
 use Rattle.effect_checker.specs.Checked.{IsChecked}
-use Rattle.front_end.specs.declared.programs.Stop.{Stop}
-use Rattle.front_end.specs.declared.programs.Stop.TheVariants.{Refused, Memory}
-use Rattle.front_end.specs.Texts.{HasChecked, IsStop}
+use Rattle.run_report.specs.declared.programs.Stop.{Stop}
+use Rattle.run_report.specs.declared.programs.Stop.TheVariants.{Refused, Memory}
+use Rattle.run_report.specs.Texts.{HasChecked, IsStop}
 use Rattle.referee_top.specs.Answers.{HasTold}
 
 -- ---- a document

@@ -1,23 +1,23 @@
 -- The referee's answer to a mode and a document.
 use Rattle.std.specs.Prelude.{◌≡◌, ◌⊎◌, ℕ, ◌<◌, List, length}
 use Rattle.region_table.specs.Program.{ProgramParts}
-use Rattle.claim_document.specs.declared.claim.Claim.{Claim}
-use Rattle.claim_document.specs.declared.claim.ClaimFault.{ClaimFault}
-use Rattle.claim_document.specs.declared.claim.ClaimFault.TheVariants.{TooLarge}
-use Rattle.claim_document.specs.declared.claim.GrantOrder.{GrantOrder}
-use Rattle.claim_document.specs.declared.claim.Question.{Question}
-use Rattle.claim_document.specs.Alone.{IsQuestionDocument, HasQuestionFault, IsOrderDocument, HasOrderFault}
-use Rattle.claim_document.specs.Claim.{IsClaimDocument, claim_text, most_bytes}
-use Rattle.claim_document.specs.Faults.{HasFault}
-use Rattle.claim_document.specs.Refusal.{refusal_text}
-use Rattle.claim_verdict.specs.declared.verdict.Verdict.{Verdict}
-use Rattle.claim_verdict.specs.declared.verdict.Verdict.TheVariants.{Agrees, Grants, Tasks, Load, Answer}
-use Rattle.claim_verdict.specs.Verdict.{verdict_text}
-use Rattle.claim_judge.specs.declared.right.RightClaim.{RightClaim}
-use Rattle.claim_judge.specs.declared.right.RightClaim.TheVariants.{Whole, Refused}
-use Rattle.claim_judge.specs.Judge.{IsVerdict}
-use Rattle.claim_judge.specs.Right.{IsRightBy, IsRightClaim, IsLeastClaim}
-use Rattle.front_end.specs.Texts.{HasChecked, IsUnfit}
+use Rattle.claims.specs.declared.claim.Claim.{Claim}
+use Rattle.claims.specs.declared.claim.ClaimFault.{ClaimFault}
+use Rattle.claims.specs.declared.claim.ClaimFault.TheVariants.{TooLarge}
+use Rattle.claims.specs.declared.claim.GrantOrder.{GrantOrder}
+use Rattle.claims.specs.declared.claim.Question.{Question}
+use Rattle.claims.specs.Alone.{IsQuestionDocument, HasQuestionFault, IsOrderDocument, HasOrderFault}
+use Rattle.claims.specs.Claim.{IsClaimDocument, claim_text, most_bytes}
+use Rattle.claims.specs.Faults.{HasFault}
+use Rattle.claims.specs.Refusal.{refusal_text}
+use Rattle.claims.specs.declared.verdict.Verdict.{Verdict}
+use Rattle.claims.specs.declared.verdict.Verdict.TheVariants.{Agrees, Grants, Tasks, Load, Answer}
+use Rattle.claims.specs.Verdict.{verdict_text}
+use Rattle.claims.specs.declared.right.RightClaim.{RightClaim}
+use Rattle.claims.specs.declared.right.RightClaim.TheVariants.{Whole, Refused}
+use Rattle.claims.specs.Judge.{IsVerdict}
+use Rattle.claims.specs.Right.{IsRightBy, IsRightClaim, IsLeastClaim}
+use Rattle.run_report.specs.Texts.{HasChecked, IsUnfit}
 use Rattle.program_outside.specs.declared.ends.Output.{Output}
 use Rattle.referee_top.specs.declared.mode.RefereeMode.{RefereeMode}
 use Rattle.referee_top.specs.declared.mode.RefereeMode as mode

@@ -1,8 +1,8 @@
 -- Definitions for the laws of the program, in src/laws.rt.
 use Rattle.std.specs.Prelude.{ℕ, List}
-use Rattle.claim_document.specs.Claim.{IsClaimDocument}
-use Rattle.claim_judge.specs.Judge.{AgreesWithRun}
-use Rattle.front_end.specs.Texts.{HasChecked}
+use Rattle.claims.specs.Claim.{IsClaimDocument}
+use Rattle.claims.specs.Judge.{AgreesWithRun}
+use Rattle.run_report.specs.Texts.{HasChecked}
 use Rattle.referee_top.specs.Answers.{HasTold}
 
 -- the bytes claim what one thread on one memory does by the claimed grants

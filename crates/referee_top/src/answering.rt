@@ -1,22 +1,23 @@
 ghost use Rattle.std.specs.Prelude.{◌≡◌, IfOk, IfErr};
-ghost use Rattle.claim_document.specs.Alone.{IsOrder};
-ghost use Rattle.claim_document.specs.Claim.{IsClaimDocument, IsQuestion, claim_text as text_of};
-ghost use Rattle.claim_judge.specs.Judge.{IsJudgeable};
-ghost use Rattle.claim_judge.specs.Right.{IsRightClaim, IsLeastClaim};
-ghost use Rattle.front_end.specs.Texts.{IsStop};
+ghost use Rattle.claims.specs.Alone.{IsOrder};
+ghost use Rattle.claims.specs.Claim.{IsClaimDocument, IsQuestion, claim_text as text_of};
+ghost use Rattle.claims.specs.Judge.{IsJudgeable};
+ghost use Rattle.claims.specs.Right.{IsRightClaim, IsLeastClaim};
+ghost use Rattle.run_report.specs.Texts.{IsStop};
 ghost use Rattle.referee_top.specs.declared.mode.RefereeMode.TheVariants as mode;
 ghost use Rattle.referee_top.specs.Answers.{IsAnswer, IsJudged, IsOrdered, IsLeastReply, IsTooLarge, IsUnwritten, mode_done, refused_with, verdict_reply, verdict_status, claim_reply};
 
 use crate::documents::{claim_in, order_in, question_in, refused};
 use crate::mode::RefereeMode;
 use crate::status::RefereeStatus;
-use claim_document::{Claim, ClaimFault, ClaimTextError, GrantOrder, Question, claim_text};
-use claim_judge::{RightClaim, judge, least_claim, right_claim};
-use claim_verdict::{Verdict, push_verdict};
+use claims::{
+    Claim, ClaimFault, ClaimTextError, GrantOrder, Question, RightClaim, Verdict, claim_text,
+    judge, least_claim, push_verdict, right_claim,
+};
 use dn_base::{Memory, Sequence};
 use effect_checker::Checked;
-use front_end::{Stop, checked_of};
 use program_outside::Output;
+use run_report::{Stop, checked_of};
 use std::alloc::Global;
 
 /// A status, and all bytes that are to be written.

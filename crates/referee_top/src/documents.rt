@@ -1,17 +1,17 @@
 ghost use Rattle.std.specs.Prelude.{◌≡◌, ◌≢◌, IfOk, IfErr};
-ghost use Rattle.claim_document.specs.declared.claim.ClaimFault.TheVariants.{Memory as NoMemory};
-ghost use Rattle.claim_document.specs.Alone.{IsQuestionDocument, HasQuestionFault, IsOrderDocument, HasOrderFault};
-ghost use Rattle.claim_document.specs.Claim.{IsClaimDocument};
-ghost use Rattle.claim_document.specs.Faults.{HasFault};
-ghost use Rattle.claim_document.specs.Refusal.{refusal_text};
-ghost use Rattle.front_end.specs.Texts.{IsStop};
+ghost use Rattle.claims.specs.declared.claim.ClaimFault.TheVariants.{Memory as NoMemory};
+ghost use Rattle.claims.specs.Alone.{IsQuestionDocument, HasQuestionFault, IsOrderDocument, HasOrderFault};
+ghost use Rattle.claims.specs.Claim.{IsClaimDocument};
+ghost use Rattle.claims.specs.Faults.{HasFault};
+ghost use Rattle.claims.specs.Refusal.{refusal_text};
+ghost use Rattle.run_report.specs.Texts.{IsStop};
 ghost use Rattle.referee_top.specs.Answers.{IsFaulty};
 
-use claim_document::{
+use claims::{
     Claim, ClaimFault, GrantOrder, Question, claim_line, read_claim, read_order, read_question,
 };
 use dn_base::Sequence;
-use front_end::Stop;
+use run_report::Stop;
 use std::alloc::Global;
 
 /// The refusal of a document, read or to be written, for this fault, which isn't out of memory.

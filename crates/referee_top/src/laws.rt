@@ -1,6 +1,6 @@
 //! Laws of the referee's answers. A law is a function without effect; its contract states the theorem.
 ghost use Rattle.std.specs.Prelude.{◌≡◌, ◌≢◌, ◌↔◌, ℕ, List};
-ghost use Rattle.claim_verdict.specs.declared.verdict.Verdict.TheVariants.{Agrees as SaysAgrees};
+ghost use Rattle.claims.specs.declared.verdict.Verdict.TheVariants.{Agrees as SaysAgrees};
 ghost use Rattle.referee_top.specs.declared.mode.RefereeMode.{RefereeMode};
 ghost use Rattle.referee_top.specs.declared.mode.RefereeMode.TheVariants.{Judge};
 ghost use Rattle.referee_top.specs.declared.status.RefereeStatus.TheVariants.{Agrees};

@@ -17,7 +17,7 @@ use Rattle.machine_rules.specs.State.{State}
 use Rattle.machine_rules.specs.Next.{actor_index_in}
 use Rattle.machine_rules.specs.Flight.{bit}
 use Rattle.turn_lock.specs.History.{maker}
-use Rattle.stamped_mail.specs.declared.posted.Posted.{Posted}
+use Rattle.grant_log.specs.declared.posted.Posted.{Posted}
 use Rattle.bank_hall.specs.Halls.{Calls}
 use Rattle.round_rules.specs.Members.{IsIn}
 use Rattle.round_rules.specs.Steps.{Done, with_stamp}

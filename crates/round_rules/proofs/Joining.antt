@@ -17,7 +17,7 @@ use Rattle.registry_bank.specs.Bank.{BankParts}
 use Rattle.machine_rules.specs.State.{State}
 use Rattle.machine_rules.specs.Sound.{IsMachine}
 use Rattle.turn_lock.specs.History.{maker}
-use Rattle.stamped_mail.specs.declared.posted.Posted.{Posted}
+use Rattle.grant_log.specs.declared.posted.Posted.{Posted}
 use Rattle.round_rules.specs.Members.{member, IsIn}
 use Rattle.round_rules.specs.Steps.{Step, Done, Goes}
 use Rattle.round_rules.specs.Acts.{Act, actor_of, is_act_of, act_done, note_of, events_in, events_by, core_step, steps_by, calls_in}

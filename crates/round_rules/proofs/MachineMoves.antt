@@ -39,7 +39,7 @@ use Rattle.machine_rules.proofs.Kept.{kept}
 use Rattle.machine_rules.proofs.OpenedFacts.{opened-setting}
 use Rattle.machine_rules.proofs.RunsKept.{memory_over, same-setting, run-setting}
 use Rattle.machine_rules.proofs.RunsCoherent.{first_memory, run-all}
-use Rattle.stamped_mail.specs.declared.posted.Posted.{Posted}
+use Rattle.grant_log.specs.declared.posted.Posted.{Posted}
 use Rattle.round_rules.specs.Members.{ActorParts, Member, node_there, bank_there, parts_of, member, IsIn, Deed, Handles, Makes, event_of, deed_kind, Came, node_got, node_ran, node_sent, bank_got, keeper_got, comes_of, MayDo}
 use Rattle.round_rules.specs.Steps.{with_stamp}
 use Rattle.round_rules.specs.Rounds.{IsReached, end_of_node, end_observed}

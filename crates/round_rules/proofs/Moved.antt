@@ -4,7 +4,7 @@ use Rattle.std.specs.Prelude.{sum_by, filter_map, swap_remove}
 use Rattle.std.proofs.lemmas.Bool.Decides.{nat_tests}
 use Rattle.std.proofs.lemmas.List.Sums.{sum_by-cons, sum_by_push}
 use Rattle.turn_lock.specs.History.{Legal}
-use Rattle.stamped_mail.specs.declared.posted.Posted.{Posted}
+use Rattle.grant_log.specs.declared.posted.Posted.{Posted}
 use Rattle.bank_hall.specs.declared.bank.BankIn as bank_in
 use Rattle.bank_hall.specs.declared.bank.BankIn.{BankIn}
 use Rattle.bank_hall.specs.declared.bank.BankOut as bank_out
@@ -14,8 +14,8 @@ use Rattle.bank_hall.specs.declared.port.PortOut as port_out
 use Rattle.bank_hall.specs.declared.keeper.KeeperIn as keeper_in
 use Rattle.bank_hall.specs.declared.keeper.KeeperIn.{KeeperIn}
 use Rattle.bank_hall.specs.declared.keeper.KeeperOut as keeper_out
-use Rattle.stamped_mail.specs.Stamps.{is_early, may_handle}
-use Rattle.stamped_mail.specs.Inbox.{with_mail, picked_index, picked_out, picked_out_at}
+use Rattle.grant_log.specs.Stamps.{is_early, may_handle}
+use Rattle.grant_log.specs.Inbox.{with_mail, picked_index, picked_out, picked_out_at}
 use Rattle.bank_hall.specs.Banks.{BankState, bank_handles, bank_call}
 use Rattle.bank_hall.specs.Keepers.{KeeperState, keeper_handles, keeper_call}
 use Rattle.bank_hall.specs.Ports.{port_call}

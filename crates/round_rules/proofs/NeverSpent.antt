@@ -16,7 +16,7 @@ use Rattle.machine_rules.specs.Next.{actor_index_in, next_number}
 use Rattle.machine_rules.specs.Runs.{after}
 use Rattle.turn_lock.specs.declared.entry.Entry.{Entry}
 use Rattle.turn_lock.specs.History.{Legal}
-use Rattle.stamped_mail.specs.declared.posted.Posted.{Posted}
+use Rattle.grant_log.specs.declared.posted.Posted.{Posted}
 use Rattle.bank_hall.specs.declared.bank.BankIn as bank_in_is
 use Rattle.bank_hall.specs.declared.bank.BankIn.{BankIn}
 use Rattle.bank_hall.specs.declared.bank.BankOut as bank_out
@@ -26,7 +26,7 @@ use Rattle.bank_hall.specs.declared.port.PortOut as port_out
 use Rattle.bank_hall.specs.declared.keeper.KeeperIn as keeper_in_is
 use Rattle.bank_hall.specs.declared.keeper.KeeperIn.{KeeperIn}
 use Rattle.bank_hall.specs.declared.keeper.KeeperOut as keeper_out
-use Rattle.stamped_mail.specs.Stamps.{is_early, may_handle}
+use Rattle.grant_log.specs.Stamps.{is_early, may_handle}
 use Rattle.bank_hall.specs.Banks.{BankState, bank_handles, bank_call}
 use Rattle.bank_hall.specs.Keepers.{KeeperState, keeper_handles, keeper_call}
 use Rattle.bank_hall.specs.Ports.{port_call}

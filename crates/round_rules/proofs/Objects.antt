@@ -20,7 +20,7 @@ use Rattle.phase_barrier.proofs.CountLemmas.{cores-kept}
 use Rattle.phase_barrier.proofs.LetterLemmas.{length-to_each}
 use Rattle.registration_protocol.specs.Node.{Setting}
 use Rattle.turn_lock.specs.History.{Legal}
-use Rattle.stamped_mail.specs.declared.posted.Posted.{Posted}
+use Rattle.grant_log.specs.declared.posted.Posted.{Posted}
 use Rattle.bank_hall.specs.declared.bank.BankIn as bank_in
 use Rattle.bank_hall.specs.declared.bank.BankIn.{BankIn}
 use Rattle.bank_hall.specs.declared.bank.BankOut as bank_out
@@ -33,8 +33,8 @@ use Rattle.bank_hall.specs.declared.keeper.KeeperIn as keeper_in
 use Rattle.bank_hall.specs.declared.keeper.KeeperIn.{KeeperIn}
 use Rattle.bank_hall.specs.declared.keeper.KeeperOut as keeper_out
 use Rattle.bank_hall.specs.declared.keeper.KeeperOut.{KeeperOut}
-use Rattle.stamped_mail.specs.Stamps.{is_early, may_handle, stamp_after, handling_note}
-use Rattle.stamped_mail.specs.Inbox.{with_mail, picked_index, picked_out, picked_out_at}
+use Rattle.grant_log.specs.Stamps.{is_early, may_handle, stamp_after, handling_note}
+use Rattle.grant_log.specs.Inbox.{with_mail, picked_index, picked_out, picked_out_at}
 use Rattle.bank_hall.specs.Note.{KeeperNote, letter_with}
 use Rattle.bank_hall.specs.Banks.{BankState, bank_actor, reply_of, next_after, bank_row, bank_handles, bank_call}
 use Rattle.bank_hall.specs.Keepers.{KeeperState, keeper_row, keeper_handles, keeper_call}

@@ -11,7 +11,7 @@ use Rattle.message_net.specs.Mail.{has_actor}
 use Rattle.turn_lock.specs.History.{maker}
 use Rattle.registration_protocol.specs.Node.{Setting}
 use Rattle.machine_rules.specs.State.{State}
-use Rattle.stamped_mail.specs.declared.posted.Posted.{Posted}
+use Rattle.grant_log.specs.declared.posted.Posted.{Posted}
 use Rattle.bank_hall.specs.Halls.{post_calls}
 use Rattle.round_rules.specs.Acts.{Act, Took, Made, Stepped, Kept, is_act_of, act_done, no_calls, try_calls, posting, postings, posted_by, act_calls, calls_in}
 use Rattle.round_rules.specs.Rounds.{Round, owner, HaveWorked, core_at, bank_at}

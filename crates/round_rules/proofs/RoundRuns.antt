@@ -15,7 +15,7 @@ use Rattle.grant_log.specs.Log.{grants_in}
 use Rattle.registration_protocol.specs.Node.{Setting}
 use Rattle.machine_rules.specs.State.{State}
 use Rattle.machine_rules.specs.Runs.{after, IsRun, read_off, grants_of, kinds_of}
-use Rattle.stamped_mail.specs.declared.posted.Posted.{Posted}
+use Rattle.grant_log.specs.declared.posted.Posted.{Posted}
 use Rattle.round_rules.specs.Members.{Member, Deed, Handles, Makes, member, event_of, deed_kind, IsIn}
 use Rattle.round_rules.specs.Steps.{Step, Done, stamp_of, deed_stamp, with_stamp, IsStep, Goes}
 use Rattle.round_rules.specs.Acts.{events_by}

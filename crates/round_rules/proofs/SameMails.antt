@@ -14,7 +14,7 @@ use Rattle.message_net.specs.Id.{same_actor, same_id}
 use Rattle.message_net.specs.Kind.{kind_of, kind_index}
 use Rattle.message_net.proofs.PoolLemmas.{same_actor-true, same_actor-refl, same_id-true, same_id-refl}
 use Rattle.machine_rules.specs.Flight.{bit}
-use Rattle.stamped_mail.specs.declared.posted.Posted.{Posted}
+use Rattle.grant_log.specs.declared.posted.Posted.{Posted}
 use Rattle.round_rules.proofs.Weights.{somewhere}
 
 -- the kinds in their places

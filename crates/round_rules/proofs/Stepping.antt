@@ -10,8 +10,8 @@ use Rattle.message_net.specs.Mail.{has_actor}
 use Rattle.registration_protocol.specs.Node.{Setting}
 use Rattle.machine_rules.specs.State.{State}
 use Rattle.machine_rules.specs.Flight.{bit}
-use Rattle.stamped_mail.specs.declared.posted.Posted.{Posted}
-use Rattle.stamped_mail.specs.Stamps.{stamp_after}
+use Rattle.grant_log.specs.declared.posted.Posted.{Posted}
+use Rattle.grant_log.specs.Stamps.{stamp_after}
 use Rattle.round_rules.specs.Members.{Member, Deed, Handles, Makes, member, MayDo, IsIn}
 use Rattle.round_rules.specs.Steps.{Step, Done, stamp_of, deed_stamp, with_stamp, IsStep}
 use Rattle.round_rules.specs.Rounds.{IsReached}

@@ -15,7 +15,7 @@ use Rattle.registration_protocol.specs.Node.{Setting}
 use Rattle.machine_rules.specs.State.{State}
 use Rattle.machine_rules.specs.Next.{next, granted_in}
 use Rattle.machine_rules.specs.Runs.{after, IsRun, read_off, kinds_of, grants_of}
-use Rattle.stamped_mail.specs.declared.posted.Posted.{Posted}
+use Rattle.grant_log.specs.declared.posted.Posted.{Posted}
 use Rattle.round_rules.specs.Members.{Member, member, event_of, deed_kind, IsIn}
 use Rattle.round_rules.specs.Steps.{Step, Done, stamp_of, Goes}
 use Rattle.round_rules.specs.Rounds.{IsReached, end_observed}

@@ -11,7 +11,7 @@ use Rattle.message_net.specs.Id.{same_actor}
 use Rattle.message_net.specs.Mail.{has_actor}
 use Rattle.grant_log.specs.declared.log.Stamped.{Stamped}
 use Rattle.turn_lock.specs.History.{entry}
-use Rattle.stamped_mail.specs.declared.posted.Posted.{Posted}
+use Rattle.grant_log.specs.declared.posted.Posted.{Posted}
 use Rattle.bank_hall.specs.declared.bank.Handled.{Handled}
 use Rattle.bank_hall.specs.declared.bank.BankIn as bank_in
 use Rattle.bank_hall.specs.declared.bank.BankOut as bank_out

@@ -10,7 +10,7 @@ use Rattle.grant_log.specs.Log.{of_actor}
 use Rattle.registration_protocol.specs.Node.{NodeParts, Setting}
 use Rattle.registration_protocol.specs.OwnEvents.{own_event}
 use Rattle.machine_rules.specs.State.{State}
-use Rattle.stamped_mail.specs.declared.posted.Posted.{Posted}
+use Rattle.grant_log.specs.declared.posted.Posted.{Posted}
 use Rattle.bank_hall.specs.declared.bank.Handled.{Handled}
 use Rattle.bank_hall.specs.Note.{KeeperNote}
 use Rattle.round_rules.specs.Steps.{Done}

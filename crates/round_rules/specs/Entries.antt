@@ -8,7 +8,7 @@ use Rattle.message_net.specs.declared.event.Event.TheVariants.{Handle}
 use Rattle.grant_log.specs.declared.log.Stamped.{Stamped}
 use Rattle.grant_log.specs.Log.{of_actor}
 use Rattle.registration_protocol.specs.Node.{Setting}
-use Rattle.stamped_mail.specs.declared.posted.Posted.{Posted}
+use Rattle.grant_log.specs.declared.posted.Posted.{Posted}
 use Rattle.bank_hall.specs.declared.bank.Handled.{Handled}
 use Rattle.bank_hall.specs.Note.{KeeperNote}
 use Rattle.bank_hall.specs.Halls.{BankEntry, PortEntry, KeeperEntry}

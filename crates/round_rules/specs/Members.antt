@@ -21,7 +21,7 @@ use Rattle.registration_protocol.specs.OwnEvents.{own_event, instructed, evicted
 use Rattle.registration_protocol.specs.Messages.{node_gets}
 use Rattle.machine_rules.specs.State.{State}
 use Rattle.machine_rules.specs.Next.{next_number}
-use Rattle.stamped_mail.specs.declared.posted.Posted.{Posted}
+use Rattle.grant_log.specs.declared.posted.Posted.{Posted}
 
 -- what an actor is; a machine may lack it
 pub data ActorParts : Type 0 where

@@ -9,9 +9,9 @@ use Rattle.message_net.specs.declared.event.Event.{Event}
 use Rattle.grant_log.specs.declared.log.Stamped.{Stamped}
 use Rattle.registration_protocol.specs.Node.{NodeParts, Setting}
 use Rattle.registration_protocol.specs.OwnEvents.{own_event}
-use Rattle.stamped_mail.specs.declared.posted.Posted.{Posted}
+use Rattle.grant_log.specs.declared.posted.Posted.{Posted}
 use Rattle.bank_hall.specs.Halls.{PassView, HasMadeCalls, pass_number}
-use Rattle.stamped_mail.specs.Stamps.{has_numbers_left}
+use Rattle.grant_log.specs.Stamps.{has_numbers_left}
 use Rattle.round_rules.specs.declared.end_seen.EndSeen.{EndSeen}
 use Rattle.round_rules.specs.Members.{NodeIs, Member}
 use Rattle.round_rules.specs.Steps.{Done, Step, Goes, clock_after}

@@ -20,7 +20,7 @@ use Rattle.machine_rules.specs.Next.{next_number}
 use Rattle.machine_rules.specs.Runs.{after, IsRun, read_off, grants_of, kinds_of}
 use Rattle.machine_rules.specs.Sound.{IsReady}
 use Rattle.turn_lock.specs.History.{Legal, calls_by}
-use Rattle.stamped_mail.specs.declared.posted.Posted.{Posted}
+use Rattle.grant_log.specs.declared.posted.Posted.{Posted}
 use Rattle.bank_hall.specs.Banks.{BankState}
 use Rattle.bank_hall.specs.Keepers.{KeeperState}
 use Rattle.bank_hall.specs.Halls.{Calls, BankEntry, PortEntry, KeeperEntry, bank_answer, bank_next, port_answer, port_next, keeper_answer, keeper_next}

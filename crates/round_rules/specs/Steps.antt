@@ -6,8 +6,8 @@ use Rattle.message_net.specs.declared.message.Mail.{Mail}
 use Rattle.message_net.specs.Mail.{mails_of}
 use Rattle.grant_log.specs.declared.log.Stamped.{Stamped}
 use Rattle.registration_protocol.specs.Node.{Setting}
-use Rattle.stamped_mail.specs.declared.posted.Posted.{Posted}
-use Rattle.stamped_mail.specs.Stamps.{stamp_after}
+use Rattle.grant_log.specs.declared.posted.Posted.{Posted}
+use Rattle.grant_log.specs.Stamps.{stamp_after}
 use Rattle.round_rules.specs.Members.{Member, Deed, Handles, Makes, Came, event_of, deed_kind, comes_of, after_deed, MayDo}
 
 -- what an event tells: what is noted of it, the mails that it sent, and how the task of a core that arrived has ended

@@ -6,7 +6,7 @@ use Rattle.registration_protocol.specs.Node.{Setting}
 use Rattle.machine_rules.specs.State.{State}
 use Rattle.turn_lock.specs.declared.entry.Entry.{Entry}
 use Rattle.turn_lock.specs.History.{Legal}
-use Rattle.stamped_mail.specs.declared.posted.Posted.{Posted}
+use Rattle.grant_log.specs.declared.posted.Posted.{Posted}
 use Rattle.bank_hall.specs.declared.bank.BankOut as bank_out
 use Rattle.bank_hall.specs.declared.port.PortOut as port_out
 use Rattle.bank_hall.specs.declared.keeper.KeeperOut as keeper_out

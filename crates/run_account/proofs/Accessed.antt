@@ -16,8 +16,8 @@ use Rattle.word_cache.specs.declared.row.Entry.TheVariants.{Valid, Registered, L
 use Rattle.registration_protocol.specs.Node.{NodeParts, entry_of, need_now, need_if, need_by}
 use Rattle.registration_protocol.specs.OwnEvents.{instructed, instr_by, load_row, store_row, written_by, written_now, written_if}
 use Rattle.machine_rules.specs.State.{State}
-use Rattle.account_table.specs.declared.item.Item.{Item}
-use Rattle.account_table.specs.declared.measure.Measure as measure
+use Rattle.run_account.specs.declared.item.Item.{Item}
+use Rattle.run_account.specs.declared.measure.Measure as measure
 use Rattle.run_account.specs.Departures.{Departures}
 use Rattle.run_account.specs.Events.{item_at, item_if, is_registered, load_items, store_items, sent_items, instr_items}
 use Rattle.run_account.specs.Access.{hit_items, load_access, store_access, need_items}

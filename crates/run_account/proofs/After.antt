@@ -14,8 +14,8 @@ use Rattle.word_cache.specs.Cache.{AreDifferent}
 use Rattle.registry_bank.specs.Bank.{BankParts}
 use Rattle.registration_protocol.specs.Node.{NodeParts, entry_of}
 use Rattle.machine_rules.specs.State.{State}
-use Rattle.account_table.specs.Tallies.{with_items}
-use Rattle.account_table.specs.declared.item.Item.{Item}
+use Rattle.run_account.specs.Tallies.{with_items}
+use Rattle.run_account.specs.declared.item.Item.{Item}
 use Rattle.run_account.specs.Departures.{Departures, departures_with, gone_at_eviction, gone_at_message, gone_in}
 use Rattle.run_account.specs.Handings.{Handings, handings_with, handed_in}
 use Rattle.run_account.specs.Events.{instr_items, evict_items, message_items, items_in}

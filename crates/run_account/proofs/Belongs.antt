@@ -29,9 +29,9 @@ use Rattle.registration_protocol.specs.Messages.{node_gets, written_in, guarded_
 use Rattle.machine_rules.specs.State.{State}
 use Rattle.machine_rules.specs.Memory.{word_value, value_in_entry}
 use Rattle.machine_rules.specs.Coherent.{Coherent, IsExpected, waits_for}
-use Rattle.account_table.specs.declared.measure.Measure as measure
-use Rattle.account_table.specs.declared.measure.Measure.{Measure}
-use Rattle.account_table.specs.declared.item.Item.{Item}
+use Rattle.run_account.specs.declared.measure.Measure as measure
+use Rattle.run_account.specs.declared.measure.Measure.{Measure}
+use Rattle.run_account.specs.declared.item.Item.{Item}
 use Rattle.run_account.specs.declared.departure.Handing.{Handing}
 use Rattle.run_account.specs.declared.departure.Occasion.{Occasion}
 use Rattle.run_account.specs.declared.departure.Occasion.TheVariants.{Go, Grant}

@@ -3,7 +3,7 @@ use Rattle.std.proofs.Common.{◌≡◌, ℕ, zero, suc, ◌+◌, Bool, true, fa
 use Rattle.std.specs.Prelude.{count_by}
 use Rattle.std.proofs.lemmas.List.Sums.{sum_by-cons}
 use Rattle.registration_protocol.specs.Node.{NodeParts}
-use Rattle.account_table.specs.declared.item.Item.{Item}
+use Rattle.run_account.specs.declared.item.Item.{Item}
 use Rattle.run_account.specs.Events.{item_if}
 use Rattle.run_account.specs.Account.{Accounted, adding}
 

@@ -23,11 +23,11 @@ use Rattle.registration_protocol.specs.Messages.{node_gets}
 use Rattle.machine_rules.specs.State.{State}
 use Rattle.machine_rules.specs.Next.{enabled, when_there, kind_in, kind_with}
 use Rattle.machine_rules.specs.Coherent.{Coherent}
-use Rattle.account_table.specs.declared.measure.Measure as measure
-use Rattle.account_table.specs.declared.measure.Measure.{Measure}
-use Rattle.account_table.specs.declared.item.Item.{Item}
-use Rattle.account_table.specs.Measure.{same_measure}
-use Rattle.account_table.specs.Items.{items_of_measure}
+use Rattle.run_account.specs.declared.measure.Measure as measure
+use Rattle.run_account.specs.declared.measure.Measure.{Measure}
+use Rattle.run_account.specs.declared.item.Item.{Item}
+use Rattle.run_account.specs.Measure.{same_measure}
+use Rattle.run_account.specs.Items.{items_of_measure}
 use Rattle.run_account.specs.declared.departure.Handing.{Handing}
 use Rattle.run_account.specs.declared.departure.Handing.TheVariants.{AtOnce, Queued}
 use Rattle.run_account.specs.Departures.{Departures, goes}

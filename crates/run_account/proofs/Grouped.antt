@@ -19,14 +19,14 @@ use Rattle.machine_rules.proofs.SoundEvents.{sound-next}
 use Rattle.machine_rules.proofs.OpenedSound.{opened-sound}
 use Rattle.machine_rules.proofs.OpenedFacts.{opened-setting}
 use Rattle.machine_rules.proofs.NoPhases.{no-phases-run}
-use Rattle.account_table.specs.declared.item.Item.{Item}
-use Rattle.account_table.specs.declared.item.Grouping.{Grouping}
-use Rattle.account_table.specs.declared.item.Grouping.TheVariants as by
-use Rattle.account_table.specs.declared.measure.Measure.{Measure}
-use Rattle.account_table.specs.Measure.{same_measure}
-use Rattle.account_table.specs.Items.{regions_from, counts_for, count_in, items_of_measure, sum_of_groups, IsGrouped}
-use Rattle.account_table.proofs.Sums.{groups-sum}
-use Rattle.account_table.proofs.Words.{word-lies}
+use Rattle.run_account.specs.declared.item.Item.{Item}
+use Rattle.run_account.specs.declared.item.Grouping.{Grouping}
+use Rattle.run_account.specs.declared.item.Grouping.TheVariants as by
+use Rattle.run_account.specs.declared.measure.Measure.{Measure}
+use Rattle.run_account.specs.Measure.{same_measure}
+use Rattle.run_account.specs.Items.{regions_from, counts_for, count_in, items_of_measure, sum_of_groups, IsGrouped}
+use Rattle.run_account.proofs.Sums.{groups-sum}
+use Rattle.run_account.proofs.Words.{word-lies}
 use Rattle.run_account.specs.declared.departure.Handing.{Handing}
 use Rattle.run_account.specs.declared.departure.Handing.TheVariants.{AtOnce, Queued}
 use Rattle.run_account.specs.Events.{grant_measure, items_in}

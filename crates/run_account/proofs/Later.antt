@@ -28,11 +28,11 @@ use Rattle.registration_protocol.specs.Messages.{node_gets}
 use Rattle.machine_rules.specs.State.{State}
 use Rattle.machine_rules.specs.Next.{enabled, kind_in, kind_with}
 use Rattle.machine_rules.specs.Coherent.{Coherent, IsExpected, waits_for}
-use Rattle.account_table.specs.declared.measure.Measure as measure
-use Rattle.account_table.specs.declared.measure.Measure.{Measure}
-use Rattle.account_table.specs.declared.item.Item.{Item}
-use Rattle.account_table.specs.Measure.{measure_index, same_measure}
-use Rattle.account_table.specs.Items.{items_of_measure}
+use Rattle.run_account.specs.declared.measure.Measure as measure
+use Rattle.run_account.specs.declared.measure.Measure.{Measure}
+use Rattle.run_account.specs.declared.item.Item.{Item}
+use Rattle.run_account.specs.Measure.{measure_index, same_measure}
+use Rattle.run_account.specs.Items.{items_of_measure}
 use Rattle.run_account.specs.declared.departure.Departure.{Departure}
 use Rattle.run_account.specs.declared.departure.Departure.TheVariants as why
 use Rattle.run_account.specs.declared.departure.Handing.{Handing}

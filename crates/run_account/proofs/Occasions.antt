@@ -20,8 +20,8 @@ use Rattle.registration_protocol.specs.declared.node.NodeWait.TheVariants as wai
 use Rattle.registration_protocol.specs.Node.{NodeParts, Setting}
 use Rattle.registration_protocol.specs.Messages.{node_gets, becomes, begins, grant_row, granted_to, written_in, guarded_by}
 use Rattle.machine_rules.specs.State.{State}
-use Rattle.account_table.specs.declared.item.Item.{Item}
-use Rattle.account_table.specs.Tallies.{with_items}
+use Rattle.run_account.specs.declared.item.Item.{Item}
+use Rattle.run_account.specs.Tallies.{with_items}
 use Rattle.run_account.specs.declared.departure.Occasion.{Occasion}
 use Rattle.run_account.specs.declared.departure.Occasion.TheVariants.{Go, Grant}
 use Rattle.run_account.specs.Departures.{Departures}

@@ -26,13 +26,13 @@ use Rattle.registration_protocol.specs.Messages.{node_gets, written_in, guarded_
 use Rattle.machine_rules.specs.State.{State}
 use Rattle.machine_rules.specs.Next.{next}
 use Rattle.machine_rules.specs.Memory.{word_value, value_in_entry}
-use Rattle.account_table.specs.declared.measure.Measure as measure
-use Rattle.account_table.specs.declared.measure.Measure.{Measure}
-use Rattle.account_table.specs.declared.item.Item.{Item}
-use Rattle.account_table.specs.declared.item.Grouping as grouping
-use Rattle.account_table.specs.declared.item.Grouping.{Grouping}
-use Rattle.account_table.specs.Measure.{measure_index, same_measure}
-use Rattle.account_table.specs.Items.{regions_from, group_of, is_group, count_in}
+use Rattle.run_account.specs.declared.measure.Measure as measure
+use Rattle.run_account.specs.declared.measure.Measure.{Measure}
+use Rattle.run_account.specs.declared.item.Item.{Item}
+use Rattle.run_account.specs.declared.item.Grouping as grouping
+use Rattle.run_account.specs.declared.item.Grouping.{Grouping}
+use Rattle.run_account.specs.Measure.{measure_index, same_measure}
+use Rattle.run_account.specs.Items.{regions_from, group_of, is_group, count_in}
 use Rattle.run_account.specs.declared.departure.Departure.{Departure}
 use Rattle.run_account.specs.declared.departure.Departure.TheVariants as why
 use Rattle.run_account.specs.declared.departure.Handing.{Handing}

@@ -9,7 +9,7 @@ use Rattle.word_cache.specs.Cache.{Pair, in_set}
 use Rattle.word_cache.specs.Row.{pairs_of, pairs_by_use}
 use Rattle.registration_protocol.specs.Node.{NodeParts}
 use Rattle.machine_rules.specs.State.{State}
-use Rattle.account_table.specs.Tallies.{Tallies, with_items}
+use Rattle.run_account.specs.Tallies.{Tallies, with_items}
 use Rattle.run_account.specs.declared.departure.Occasion.{Occasion}
 use Rattle.run_account.specs.Departures.{Departures}
 use Rattle.run_account.specs.Events.{pair_items}

@@ -2,10 +2,10 @@
 use Rattle.std.proofs.Common.{◌≡◌, ◌≢◌, ℕ, zero, suc, ◌+◌, ◌<◌, ◌≤◌, ◌==◌, Bool, true, false, nat_lt, List, [], ◌∷◌, ◌++◌, length, get_or, set, Option, Some, None, refl, sym, ap, ◌∙◌, arith}
 use Rattle.std.proofs.lemmas.Bool.Decides.{nat_tests}
 use Rattle.std.proofs.lemmas.List.{get_or-set_same, get_or-set_other, set-set, set_past}
-use Rattle.account_table.specs.declared.item.Item.{Item}
-use Rattle.account_table.specs.Measure.{measure_index}
-use Rattle.account_table.specs.Items.{group_of}
-use Rattle.account_table.specs.Tallies.{Tallies, capped, one_more_at, raised_in, with_item, with_items}
+use Rattle.run_account.specs.declared.item.Item.{Item}
+use Rattle.run_account.specs.Measure.{measure_index}
+use Rattle.run_account.specs.Items.{group_of}
+use Rattle.run_account.specs.Tallies.{Tallies, capped, one_more_at, raised_in, with_item, with_items}
 
 pub set-commute : {X : Type 0} (xs : List X) (i j : ℕ) (a b : X) → i ≢ j → set (set xs i a) j b ≡ set (set xs j b) i a
 set-commute [] i j a b other = refl

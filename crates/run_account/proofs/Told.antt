@@ -10,10 +10,10 @@ use Rattle.machine_rules.specs.State.{State}
 use Rattle.machine_rules.specs.Next.{next, enabled, kind_in}
 use Rattle.machine_rules.specs.Runs.{IsRun, kinds_of}
 use Rattle.machine_rules.specs.Coherent.{Coherent, IsInFlight}
-use Rattle.account_table.specs.declared.measure.Measure.{Measure}
-use Rattle.account_table.specs.declared.item.Item.{Item}
-use Rattle.account_table.specs.Measure.{same_measure}
-use Rattle.account_table.specs.Items.{items_of_measure}
+use Rattle.run_account.specs.declared.measure.Measure.{Measure}
+use Rattle.run_account.specs.declared.item.Item.{Item}
+use Rattle.run_account.specs.Measure.{same_measure}
+use Rattle.run_account.specs.Items.{items_of_measure}
 use Rattle.run_account.specs.Departures.{Departures, departures_after}
 use Rattle.run_account.specs.Handings.{Handings, handings_after}
 use Rattle.run_account.specs.Events.{items_in}

@@ -8,11 +8,11 @@ use Rattle.dn_machine.specs.Tried.{IsTried, HasStepped}
 use Rattle.machine_rules.specs.State.{State}
 use Rattle.machine_rules.specs.Next.{next, enabled}
 use Rattle.machine_rules.specs.Runs.{IsRun}
-use Rattle.account_table.specs.declared.item.Grouping.{Grouping}
-use Rattle.account_table.specs.declared.measure.Measure.{Measure}
-use Rattle.account_table.specs.Items.{groups_in}
-use Rattle.account_table.specs.Tallies.{Tallies, capped, tally_of, with_items}
-use Rattle.account_table.proofs.Numbers.{number-is}
+use Rattle.run_account.specs.declared.item.Grouping.{Grouping}
+use Rattle.run_account.specs.declared.measure.Measure.{Measure}
+use Rattle.run_account.specs.Items.{groups_in}
+use Rattle.run_account.specs.Tallies.{Tallies, capped, tally_of, with_items}
+use Rattle.run_account.proofs.Numbers.{number-is}
 use Rattle.run_account.specs.Events.{items_in}
 use Rattle.run_account.specs.Departures.{departures_after}
 use Rattle.run_account.specs.Handings.{handings_after}

@@ -2,11 +2,11 @@
 use Rattle.std.proofs.Common.{◌≡◌, ℕ, zero, suc, ◌+◌, Bool, false, cond, List, [], ◌∷◌, ◌++◌, replicate, refl, ◌∙◌, arith}
 use Rattle.std.specs.Prelude.{◌&&◌, flat_map}
 use Rattle.std.proofs.lemmas.List.Sums.{sum_by-cons, sum_by-append}
-use Rattle.account_table.specs.declared.measure.Measure.{Measure}
-use Rattle.account_table.specs.declared.item.Item.{Item}
-use Rattle.account_table.specs.declared.item.Grouping.{Grouping}
-use Rattle.account_table.specs.Measure.{same_measure}
-use Rattle.account_table.specs.Items.{group_of, is_group, counts_for, count_in}
+use Rattle.run_account.specs.declared.measure.Measure.{Measure}
+use Rattle.run_account.specs.declared.item.Item.{Item}
+use Rattle.run_account.specs.declared.item.Grouping.{Grouping}
+use Rattle.run_account.specs.Measure.{same_measure}
+use Rattle.run_account.specs.Items.{group_of, is_group, counts_for, count_in}
 
 -- no item of the list is of one of the measures that a test names
 abbrev pub Lacks : (Measure → Bool) → List Item → Type 0

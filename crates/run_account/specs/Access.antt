@@ -7,8 +7,8 @@ use Rattle.word_cache.specs.declared.row.Entry.{Entry}
 use Rattle.word_cache.specs.declared.row.Entry.TheVariants.{Valid, Registered, Leaving}
 use Rattle.registration_protocol.specs.Node.{NodeParts, entry_of, waits_for_nothing}
 use Rattle.machine_rules.specs.State.{State}
-use Rattle.account_table.specs.declared.item.Item.{Item}
-use Rattle.account_table.specs.declared.measure.Measure as measure
+use Rattle.run_account.specs.declared.item.Item.{Item}
+use Rattle.run_account.specs.declared.measure.Measure as measure
 use Rattle.run_account.specs.Departures.{Departures, departure_at}
 use Rattle.run_account.specs.Events.{item_at, item_if, miss_of, has_untold_copy}
 

@@ -3,12 +3,12 @@ use Rattle.std.specs.Prelude.{ℕ, nat_lt, Bool, List, [], ◌∷◌, ◌++◌}
 use Rattle.message_net.specs.declared.event.Event.{Event}
 use Rattle.machine_rules.specs.State.{State}
 use Rattle.machine_rules.specs.Next.{next}
-use Rattle.account_table.specs.declared.item.Item.{Item}
-use Rattle.account_table.specs.declared.item.Grouping.{Grouping}
-use Rattle.account_table.specs.declared.measure.Measure.{Measure}
-use Rattle.account_table.specs.Measure.{measure_index}
-use Rattle.account_table.specs.Items.{regions_from, groups_in, count_in, items_of_measure, sum_of_groups}
-use Rattle.account_table.specs.Tallies.{Tallies, no_tallies, with_items}
+use Rattle.run_account.specs.declared.item.Item.{Item}
+use Rattle.run_account.specs.declared.item.Grouping.{Grouping}
+use Rattle.run_account.specs.declared.measure.Measure.{Measure}
+use Rattle.run_account.specs.Measure.{measure_index}
+use Rattle.run_account.specs.Items.{regions_from, groups_in, count_in, items_of_measure, sum_of_groups}
+use Rattle.run_account.specs.Tallies.{Tallies, no_tallies, with_items}
 use Rattle.registration_protocol.specs.Node.{Setting}
 use Rattle.run_account.specs.Departures.{Departures, no_departures, departures_after}
 use Rattle.run_account.specs.Handings.{Handings, no_handings, handings_after}

@@ -6,7 +6,7 @@ use Rattle.write_signature.specs.Signature.{may_hold}
 use Rattle.word_cache.specs.Cache.{Pair, is_valid}
 use Rattle.registration_protocol.specs.Node.{NodeParts}
 use Rattle.machine_rules.specs.State.{State}
-use Rattle.account_table.specs.Tallies.{with_items}
+use Rattle.run_account.specs.Tallies.{with_items}
 use Rattle.run_account.specs.declared.departure.Departure.{Departure}
 use Rattle.run_account.specs.declared.departure.Departure.TheVariants as why
 use Rattle.run_account.specs.declared.departure.Occasion.{Occasion}

@@ -24,9 +24,9 @@ use Rattle.registration_protocol.specs.OwnEvents.{instructed, written_now}
 use Rattle.registration_protocol.specs.Messages.{node_gets, written_in, guarded_by}
 use Rattle.machine_rules.specs.State.{State}
 use Rattle.machine_rules.specs.Memory.{word_value, value_in_entry}
-use Rattle.account_table.specs.declared.item.Item.{Item}
-use Rattle.account_table.specs.declared.measure.Measure as measure
-use Rattle.account_table.specs.declared.measure.Measure.{Measure}
+use Rattle.run_account.specs.declared.item.Item.{Item}
+use Rattle.run_account.specs.declared.measure.Measure as measure
+use Rattle.run_account.specs.declared.measure.Measure.{Measure}
 use Rattle.run_account.specs.declared.departure.Departure.{Departure}
 use Rattle.run_account.specs.declared.departure.Departure.TheVariants as why
 use Rattle.run_account.specs.declared.departure.Handing.{Handing}

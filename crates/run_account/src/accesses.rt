@@ -1,14 +1,14 @@
 //! What is counted of an instruction.
 ghost use Rattle.std.specs.Prelude.{◌≡◌, [], ◌∷◌, Some, None};
-ghost use Rattle.account_table.specs.declared.measure.Measure.TheVariants as measure;
+ghost use Rattle.run_account.specs.declared.measure.Measure.TheVariants as measure;
 ghost use Rattle.registration_protocol.specs.Node.{entry_of};
 ghost use Rattle.run_account.specs.Account.{adding};
 ghost use Rattle.run_account.specs.Access.{miss_items, hit_items, untold_items, registering_items, load_access, store_access};
 ghost use Rattle.run_account.specs.Events.{item_at, item_if, has_untold_copy, instr_items};
 
+use crate::Measure;
 use crate::account::Account;
 use crate::nodes::need;
-use account_table::Measure;
 use dn_base::{CoreId, WordId};
 use dn_machine::{Machine, a_machine_is_kept};
 use registration_protocol::{Node, NodeWait};

@@ -8,7 +8,7 @@ ghost use Rattle.run_account.specs.Moves.{with_handing};
 
 use crate::departure::{Departure, Handing};
 use crate::nodes::item;
-use account_table::{AccountTable, Grouping, Measure};
+use crate::{AccountTable, Grouping, Measure};
 use dn_base::{CoreId, LockId, Memory, Sequence, WordId};
 use dn_machine::Machine;
 use registration_protocol::Node;

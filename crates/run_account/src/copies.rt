@@ -1,6 +1,6 @@
 //! What is counted of a core's copies at a Go and at a Grant.
 ghost use Rattle.std.specs.Prelude.{◌≡◌, ◌<◌, ◌==◌, ◌∷◌, Some};
-ghost use Rattle.account_table.specs.Tallies.{with_items};
+ghost use Rattle.run_account.specs.Tallies.{with_items};
 ghost use Rattle.machine_rules.specs.Memory.{word_value};
 ghost use Rattle.word_cache.specs.Row.{pairs_of, pairs_by_use};
 ghost use Rattle.run_account.specs.Departures.{departed};
@@ -8,9 +8,9 @@ ghost use Rattle.run_account.specs.Events.{item_at, item_if, dropped_at, current
 ghost use Rattle.run_account.specs.Copies.{spared, why_at, pair_noted, pairs_noted};
 ghost use Rattle.run_account.specs.Moves.{copies_depart};
 
+use crate::Measure;
 use crate::account::Account;
 use crate::departure::{Departure, Occasion};
-use account_table::Measure;
 use dn_base::WordId;
 use dn_machine::Machine;
 use region_table::WordSet;

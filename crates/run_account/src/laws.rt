@@ -7,12 +7,12 @@ ghost use Rattle.registration_protocol.specs.Node.{Setting};
 ghost use Rattle.machine_rules.specs.State.{State, initial_state};
 ghost use Rattle.machine_rules.specs.Runs.{IsRun};
 ghost use Rattle.machine_rules.specs.Sound.{IsReady};
-ghost use Rattle.account_table.specs.declared.item.Grouping.{Grouping};
-ghost use Rattle.account_table.specs.declared.item.Grouping.TheVariants.{Phase, Core, Region};
-ghost use Rattle.account_table.specs.declared.measure.Measure.{Measure};
-ghost use Rattle.account_table.specs.Items.{groups_in};
-ghost use Rattle.account_table.specs.Tallies.{capped, tally_of};
-ghost use Rattle.account_table.specs.declared.measure.Measure.TheVariants.{Loads, LoadsLocal, Misses, MissesFirst, MissesPhase, MissesLock, MissesEvicted, MissesTaken, RepliesHome, RepliesCore, GrantsAtOnce, GrantsQueued, EvictedCopies, EvictedRegistered};
+ghost use Rattle.run_account.specs.declared.item.Grouping.{Grouping};
+ghost use Rattle.run_account.specs.declared.item.Grouping.TheVariants.{Phase, Core, Region};
+ghost use Rattle.run_account.specs.declared.measure.Measure.{Measure};
+ghost use Rattle.run_account.specs.Items.{groups_in};
+ghost use Rattle.run_account.specs.Tallies.{capped, tally_of};
+ghost use Rattle.run_account.specs.declared.measure.Measure.TheVariants.{Loads, LoadsLocal, Misses, MissesFirst, MissesPhase, MissesLock, MissesEvicted, MissesTaken, RepliesHome, RepliesCore, GrantsAtOnce, GrantsQueued, EvictedCopies, EvictedRegistered};
 ghost use Rattle.run_account.specs.Account.{no_account, account_of_run, number_in_run, number_of_run, sum_of_run, is_of_words};
 ghost use Rattle.run_account.specs.Kinds.{events_of_kind, StaysCoherent};
 

@@ -1,8 +1,8 @@
 //! What is counted of a message that a core or a bank handles.
 ghost use Rattle.std.specs.Prelude.{◌≡◌, ◌<◌, [], ◌∷◌, Some, None, option_copied, slice_get};
 ghost use Rattle.std.specs.Option.{unwrap_or};
-ghost use Rattle.account_table.specs.declared.measure.Measure.TheVariants as measure;
-ghost use Rattle.account_table.specs.Tallies.{with_items};
+ghost use Rattle.run_account.specs.declared.measure.Measure.TheVariants as measure;
+ghost use Rattle.run_account.specs.Tallies.{with_items};
 ghost use Rattle.message_net.specs.declared.message.Message.TheVariants as message;
 ghost use Rattle.registry_bank.specs.Bank.{bank_lock};
 ghost use Rattle.registration_protocol.specs.Node.{entry_of};
@@ -13,9 +13,9 @@ ghost use Rattle.run_account.specs.Handings.{handing_of};
 ghost use Rattle.run_account.specs.Account.{adding};
 ghost use Rattle.run_account.specs.Moves.{evict_departs, taken_departs, given_departs, phase_departs, lock_departs, message_departs, free_hands, holder_hands, acquire_hands, release_hands, message_hands, begins_now, waits_now};
 
+use crate::Measure;
 use crate::account::Account;
 use crate::departure::{Departure, Handing, Occasion};
-use account_table::Measure;
 use dn_base::{CoreId, LockId, PhaseId, WordId};
 use dn_machine::Machine;
 use message_net::{Actor, Message};

@@ -4,7 +4,7 @@ ghost use Rattle.region_table.specs.Tasks.{declared, is_for};
 ghost use Rattle.registration_protocol.specs.Node.{need_now};
 ghost use Rattle.run_account.specs.Events.{item_of};
 
-use account_table::{Item, Measure};
+use crate::{Item, Measure};
 use dn_base::{CoreId, PhaseId, WordId};
 use dn_machine::Machine;
 use region_table::{Program, TaskDecl};

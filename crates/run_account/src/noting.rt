@@ -6,8 +6,8 @@ ghost use Rattle.message_net.specs.Pool.{removed};
 ghost use Rattle.machine_rules.specs.Runs.{IsRun};
 ghost use Rattle.run_account.specs.Account.{no_account, account_after, account_of_run};
 
+use crate::Grouping;
 use crate::account::Account;
-use account_table::Grouping;
 use dn_base::{BankId, CoreId, Memory, WordId};
 use dn_machine::{Machine, a_machine_is_kept};
 use message_net::{Actor, Event, Mail, MailId};

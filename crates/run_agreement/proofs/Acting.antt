@@ -20,9 +20,9 @@ use Rattle.rv_core.specs.Step.{advanced}
 use Rattle.flat_machine.specs.Step.{Started, At, wish, wish_unless, step_by}
 use Rattle.flat_machine.specs.Grants.{grant_of}
 use Rattle.flat_machine.specs.Laws.{at_memory}
-use Rattle.flat_agreement.specs.Worlds.{LeadsToRun, past_acquire}
-use Rattle.flat_agreement.specs.Cores.{world_of, ChangesOne, step_of_task, IsFreeAmong, IsAgreed}
-use Rattle.flat_agreement.proofs.CoreByCore.{agreed-step, agreed-grant}
+use Rattle.run_agreement.specs.Worlds.{LeadsToRun, past_acquire}
+use Rattle.run_agreement.specs.Cores.{world_of, ChangesOne, step_of_task, IsFreeAmong, IsAgreed}
+use Rattle.run_agreement.proofs.CoreByCore.{agreed-step, agreed-grant}
 use Rattle.effect_checker.specs.Checked.{IsChecked}
 use Rattle.message_net.specs.declared.message.Outgoing.{Outgoing}
 use Rattle.registration_protocol.specs.Node.{NodeParts, Setting}

@@ -15,7 +15,7 @@ use Rattle.rv_core.specs.Step.{advanced, loaded_of, merged_of}
 use Rattle.rv_core.proofs.Completions.{store-allowed, loaded-retired, whole-merged}
 use Rattle.flat_machine.specs.Step.{step_by}
 use Rattle.flat_machine.specs.Laws.{at_memory}
-use Rattle.flat_agreement.specs.Cores.{IsFreeAmong}
+use Rattle.run_agreement.specs.Cores.{IsFreeAmong}
 use Rattle.message_net.specs.declared.event.Event.{Event}
 use Rattle.message_net.specs.declared.event.Event.TheVariants.{Instr}
 use Rattle.message_net.specs.declared.message.Message.TheVariants.{Grant}

@@ -12,9 +12,9 @@ use Rattle.flat_machine.specs.Step.{Started}
 use Rattle.flat_machine.specs.Phases.{Flat, initial}
 use Rattle.flat_machine.specs.Ending.{task_end, task_loads, flat_loads_of, flat_ends_of, flat_end_of, flat_end}
 use Rattle.rv_core.specs.Ending.{ending_of}
-use Rattle.flat_agreement.specs.Cores.{world_of}
-use Rattle.flat_agreement.proofs.CoreByCore.{agreed-ends, none-ends}
-use Rattle.flat_agreement.proofs.Places.{get-cases}
+use Rattle.run_agreement.specs.Cores.{world_of}
+use Rattle.run_agreement.proofs.CoreByCore.{agreed-ends, none-ends}
+use Rattle.run_agreement.proofs.Places.{get-cases}
 use Rattle.message_net.specs.declared.event.Event.{Event}
 use Rattle.phase_barrier.specs.Barrier.{Barrier, all_arrived}
 use Rattle.registration_protocol.specs.Node.{NodeParts, Setting}

@@ -8,7 +8,7 @@ use Rattle.rv_core.specs.Task.{started}
 use Rattle.rv_core.specs.Access.{is_held}
 use Rattle.rv_core.proofs.HeldLemmas.{holds-none}
 use Rattle.flat_machine.proofs.Rights.{both-ways}
-use Rattle.flat_agreement.specs.Cores.{IsFreeAmong}
+use Rattle.run_agreement.specs.Cores.{IsFreeAmong}
 use Rattle.queue_lock.specs.Lock.{Lock, holder_count}
 use Rattle.registration_protocol.specs.Node.{NodeParts}
 use Rattle.machine_rules.specs.State.{State, lock_at}

@@ -17,7 +17,7 @@ use Rattle.machine_rules.proofs.Outcomes.{Outcomes, at_core, at_keeper, BarrierS
 use Rattle.machine_rules.proofs.Steps.{NodeStep}
 use Rattle.machine_rules.proofs.WordCore.{same-number}
 use Rattle.machine_rules.proofs.PhaseWhole.{none-posted, Arriving, arriving, in-flight, IsWhole, is-whole, there-within}
-use Rattle.flat_agreement.proofs.Places.{set-length}
+use Rattle.run_agreement.proofs.Places.{set-length}
 use Rattle.run_agreement.proofs.Phases.{alive-awake}
 
 pub record IsHalting (S : State) : Type 0 where

@@ -12,7 +12,7 @@ use Rattle.region_table.specs.Tasks.{declared}
 use Rattle.region_table.proofs.TaskLemmas.{declared-only}
 use Rattle.rv_core.specs.declared.task.TaskState.{TaskState}
 use Rattle.rv_core.specs.Task.{started}
-use Rattle.flat_agreement.proofs.Places.{get-cases}
+use Rattle.run_agreement.proofs.Places.{get-cases}
 use Rattle.registration_protocol.specs.Node.{NodeParts}
 use Rattle.machine_rules.specs.State.{State}
 use Rattle.machine_rules.specs.Sound.{IsNodeAt}

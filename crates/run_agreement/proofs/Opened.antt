@@ -11,7 +11,7 @@ use Rattle.region_table.proofs.TaskLemmas.{declared-only}
 use Rattle.rv_core.specs.declared.task.TaskState.{TaskState}
 use Rattle.rv_core.specs.Task.{started}
 use Rattle.flat_machine.specs.Step.{fresh}
-use Rattle.flat_agreement.proofs.CoreByCore.{agreed-opens}
+use Rattle.run_agreement.proofs.CoreByCore.{agreed-opens}
 use Rattle.phase_barrier.specs.Barrier.{Barrier}
 use Rattle.registration_protocol.specs.Node.{NodeParts, Setting}
 use Rattle.machine_rules.specs.State.{initial_state}

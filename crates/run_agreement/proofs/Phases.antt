@@ -15,8 +15,8 @@ use Rattle.rv_core.specs.declared.task.End.TheVariants.{Finished, Fuel, Trap}
 use Rattle.rv_core.specs.Task.{started}
 use Rattle.flat_machine.specs.Step.{fresh}
 use Rattle.flat_machine.specs.Phases.{has_finished, finished_by}
-use Rattle.flat_agreement.proofs.Places.{get-cases}
-use Rattle.flat_agreement.proofs.CoreByCore.{agreed-begin}
+use Rattle.run_agreement.proofs.Places.{get-cases}
+use Rattle.run_agreement.proofs.CoreByCore.{agreed-begin}
 use Rattle.message_net.specs.declared.message.Message.{Message}
 use Rattle.message_net.specs.declared.message.Message.TheVariants.{Arrived, Go}
 use Rattle.phase_barrier.specs.Barrier.{Barrier, with_arrival, in_next_phase, all_arrived, is_over}

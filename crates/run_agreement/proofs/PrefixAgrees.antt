@@ -9,9 +9,9 @@ use Rattle.flat_machine.specs.Step.{Started}
 use Rattle.flat_machine.specs.Phases.{Flat, all_tasks, settled, initial_flat}
 use Rattle.flat_machine.specs.Grants.{so_far}
 use Rattle.flat_machine.specs.Laws.{StandsLater}
-use Rattle.flat_agreement.specs.Cores.{world_of}
-use Rattle.flat_agreement.proofs.Agreeing.{run-later}
-use Rattle.flat_agreement.proofs.Places.{front-place, place-map}
+use Rattle.run_agreement.specs.Cores.{world_of}
+use Rattle.run_agreement.proofs.Agreeing.{run-later}
+use Rattle.run_agreement.proofs.Places.{front-place, place-map}
 use Rattle.message_net.specs.declared.event.Event.{Event}
 use Rattle.registration_protocol.specs.Node.{Setting}
 use Rattle.machine_rules.specs.State.{initial_state}

@@ -20,8 +20,8 @@ use Rattle.flat_machine.specs.Step.{Started, wish, wish_unless}
 use Rattle.flat_machine.specs.Phases.{has_finished, finished_by, next_phase}
 use Rattle.rv_core.proofs.HeldLemmas.{holds-none}
 use Rattle.flat_machine.proofs.Rights.{both-ways}
-use Rattle.flat_agreement.specs.Cores.{world_of, IsHeldAmong, IsStoppedAmong}
-use Rattle.flat_agreement.proofs.CoreByCore.{last-phase, unfinished-phase}
+use Rattle.run_agreement.specs.Cores.{world_of, IsHeldAmong, IsStoppedAmong}
+use Rattle.run_agreement.proofs.CoreByCore.{last-phase, unfinished-phase}
 use Rattle.phase_barrier.specs.Barrier.{all_arrived, is_over}
 use Rattle.registration_protocol.specs.Node.{NodeParts, is_running, need_now}
 use Rattle.registration_protocol.specs.declared.node.NodeWait as wait

@@ -13,7 +13,7 @@ use Rattle.rv_core.specs.declared.ending.TaskEnd.{TaskEnd}
 use Rattle.rv_core.specs.Ending.{shown_end}
 use Rattle.rv_core.specs.Task.{started}
 use Rattle.flat_machine.specs.Step.{Started}
-use Rattle.flat_agreement.specs.Cores.{IsAgreed}
+use Rattle.run_agreement.specs.Cores.{IsAgreed}
 use Rattle.message_net.specs.declared.event.Event.{Event}
 use Rattle.registration_protocol.specs.Node.{NodeParts, Setting}
 use Rattle.machine_rules.specs.State.{State}

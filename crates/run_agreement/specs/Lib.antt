@@ -1,3 +1,5 @@
 pub mod Agreed
-pub mod Fronts
+pub mod Cores
 pub mod Ends
+pub mod Fronts
+pub mod Worlds

@@ -4,8 +4,19 @@
 //! which the stores were applied. This world leads to the state to which the grants so far lead the flat machine.
 #![tactic(auto)]
 
+mod core_laws;
 mod laws;
 
+pub use core_laws::{
+    a_grant_is_the_next_of_the_run, a_phase_that_stops_has_the_end_of_the_run,
+    a_step_keeps_the_run, a_word_comes_to_its_value_in_the_run_by_its_task_alone,
+    a_world_at_rest_is_the_state_of_the_run, a_world_leads_to_the_run_at_first,
+    a_world_that_stops_has_the_end_of_the_run, no_phase_begins,
+    the_beginning_of_a_phase_keeps_the_run, the_first_phase_is_agreed,
+    the_loads_of_a_task_are_a_front_of_its_loads_in_the_run, the_next_phase_is_agreed,
+    what_a_core_acquires_is_the_next_grant, what_a_core_does_keeps_the_run,
+    what_changes_no_task_keeps_the_run,
+};
 pub use laws::{
     every_complete_run_has_the_end_of_the_flat_run,
     every_run_agrees_with_the_flat_run_of_its_grants,

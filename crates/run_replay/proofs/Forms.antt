@@ -2,9 +2,9 @@
 use Rattle.std.proofs.Common.{◌≡◌, ℕ, ◌^◌, ◌<◌, List, [], ◌++◌, codes, refl, sym, ◌∙◌, arith, append_assoc}
 use Rattle.std.proofs.lemmas.List.{append_cancel_left}
 use Rattle.text_pieces.specs.Pieces.{newline, space}
-use Rattle.document_parts.specs.Field.{field, IsFrom}
-use Rattle.document_parts.specs.Parts.{source_part}
-use Rattle.document_parts.proofs.Forms.{IsOne, field-one, source-one}
+use Rattle.text_pieces.specs.Field.{field, IsFrom}
+use Rattle.text_pieces.specs.Parts.{source_part}
+use Rattle.text_pieces.proofs.Forms.{IsOne, field-one, source-one}
 use Rattle.run_replay.specs.declared.trace.TraceShape.{TraceShape}
 use Rattle.run_replay.specs.Document.{IsTraceShape, Head, IsHead, title, shape_line, head_text}
 use Rattle.run_replay.specs.Lines.{two_fields}

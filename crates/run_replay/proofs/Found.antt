@@ -9,11 +9,11 @@ use Rattle.message_net.specs.declared.actor.MailId.{MailId}
 use Rattle.message_net.specs.declared.event.Event.{Event}
 use Rattle.message_net.specs.declared.event.Event.TheVariants.{Instr, Evict, Arrive, Handle}
 use Rattle.text_pieces.specs.Pieces.{newline, space}
-use Rattle.document_parts.specs.Field.{field, IsFrom, Stands, NoneStands}
-use Rattle.document_parts.specs.Parts.{source_part}
+use Rattle.text_pieces.specs.Field.{field, IsFrom, Stands, NoneStands}
+use Rattle.text_pieces.specs.Parts.{source_part}
 use Rattle.run_replay.specs.Document.{IsNamed, IsMail, FitsDocument, Head, title, shape_line, head_text, mail_line, event_line, event_lines}
 use Rattle.run_replay.specs.Lines.{two_fields, StandTwo, mail_text, AreLines}
-use Rattle.document_parts.proofs.Forms.{IsOne}
+use Rattle.text_pieces.proofs.Forms.{IsOne}
 use Rattle.run_replay.proofs.Forms.{head-parts}
 
 -- ---- one after another

@@ -12,12 +12,12 @@ use Rattle.run_replay.specs.declared.trace.Trace.{Trace}
 use Rattle.run_replay.specs.declared.trace.TraceShape.{TraceShape}
 use Rattle.run_replay.specs.declared.trace.TraceFault.{TraceFault}
 use Rattle.run_replay.specs.declared.trace.TraceFault.TheVariants.{TooLarge, Head as NoHead, Line, Rest, Memory}
-use Rattle.document_parts.specs.Field.{field, IsFrom, NoneStands}
-use Rattle.document_parts.specs.Parts.{source_part}
+use Rattle.text_pieces.specs.Field.{field, IsFrom, NoneStands}
+use Rattle.text_pieces.specs.Parts.{source_part}
 use Rattle.run_replay.specs.Document.{IsTraceShape, IsNamed, FitsDocument, Head, IsHead, IsTrace, head_of, title, shape_line, head_text, mail_line, event_line, event_lines, document_of, IsDocument}
 use Rattle.run_replay.specs.Faults.{most_bytes, BeginsWithEvents, IsBrokenAt, HasFault}
 use Rattle.run_replay.specs.Lines.{two_fields}
-use Rattle.document_parts.proofs.Forms.{IsOne, field-one}
+use Rattle.text_pieces.proofs.Forms.{IsOne, field-one}
 use Rattle.run_replay.proofs.Forms.{two-one, head-one}
 
 -- ---- an event

@@ -8,8 +8,8 @@ use Rattle.message_net.specs.declared.event.Event.TheVariants.{Instr, Evict, Arr
 use Rattle.text_pieces.specs.Pieces.{newline, space}
 use Rattle.run_replay.specs.declared.trace.TraceShape.{TraceShape}
 use Rattle.run_replay.specs.declared.trace.Trace.{Trace}
-use Rattle.document_parts.specs.Field.{field, IsFrom}
-use Rattle.document_parts.specs.Parts.{source_part}
+use Rattle.text_pieces.specs.Field.{field, IsFrom}
+use Rattle.text_pieces.specs.Parts.{source_part}
 
 -- ---- what may be told
 

@@ -3,7 +3,7 @@ use Rattle.std.specs.Prelude.{◌≡◌, ℕ, ◌<◌, ◌≤◌, All, List, ◌
 use Rattle.message_net.specs.declared.event.Event.{Event}
 use Rattle.run_replay.specs.declared.trace.TraceFault.{TraceFault}
 use Rattle.run_replay.specs.declared.trace.TraceFault.TheVariants.{TooLarge, Head as NoHead, Line, Rest, Memory}
-use Rattle.document_parts.specs.Field.{NoneStands}
+use Rattle.text_pieces.specs.Field.{NoneStands}
 use Rattle.run_replay.specs.Document.{FitsDocument, Head, IsHead, head_text, event_line, event_lines}
 
 -- a document has no more bytes than this

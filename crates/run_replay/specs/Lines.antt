@@ -5,7 +5,7 @@ use Rattle.message_net.specs.declared.event.Event.{Event}
 use Rattle.run_replay.specs.declared.head.Heading.{Heading}
 use Rattle.run_replay.specs.declared.trace.TraceFault.{TraceFault}
 use Rattle.run_replay.specs.declared.trace.TraceFault.TheVariants.{TooLarge, Head as NoHead, Line, Rest, Memory}
-use Rattle.document_parts.specs.Field.{field, IsFrom, NoneStands}
+use Rattle.text_pieces.specs.Field.{field, IsFrom, NoneStands}
 use Rattle.run_replay.specs.Document.{Head, FitsDocument, mail_line, event_line, event_lines}
 use Rattle.text_pieces.specs.Pieces.{newline, space}
 

@@ -1,13 +1,13 @@
 ghost use Rattle.std.specs.Prelude.{◌≡◌, ℕ, List, [], length, IfSome, IfNone, IfOk, IfErr};
-ghost use Rattle.document_parts.specs.Field.{Stands, NoneStands};
+ghost use Rattle.text_pieces.specs.Field.{Stands, NoneStands};
 ghost use Rattle.run_replay.specs.Document.{event_line, IsMail, FitsDocument};
 ghost use Rattle.run_replay.specs.Lines.{StandTwo, mail_text, AreLines, FailsLines};
 
 use crate::trace::TraceFault;
 use dn_base::{BankId, CoreId, Sequence, WordId};
-use document_parts::field;
 use message_net::{Actor, Event, MailId};
 use std::alloc::Global;
+use text_pieces::field;
 
 /// Reads a number below 16 after a name, and a number of at most `most`, which end a line, at the start of some bytes. Gives
 /// them and the bytes after them.

@@ -1,11 +1,11 @@
 ghost use Rattle.std.specs.Prelude.{◌≡◌, ◌≢◌, List, ℕ, ◌++◌, IfSome, IfNone};
-ghost use Rattle.document_parts.specs.Field.{Stands, NoneStands};
+ghost use Rattle.text_pieces.specs.Field.{Stands, NoneStands};
 ghost use Rattle.run_replay.specs.Document.{title, shape_line, head_text, IsTraceShape, IsHead};
 ghost use Rattle.run_replay.specs.Lines.{told_by};
 
 use crate::trace::TraceShape;
 use dn_base::MOST_EVENTS;
-use document_parts::{behind, field, source};
+use text_pieces::{behind, field, source};
 
 /// The head of a document, and the bytes after it.
 #[derive(Clone, Copy)]

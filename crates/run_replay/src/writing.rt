@@ -3,10 +3,9 @@ ghost use Rattle.run_replay.specs.Document.{title, shape_line, head_text, mail_l
 
 use crate::trace::TraceShape;
 use dn_base::Memory;
-use document_parts::{push_field, push_source};
 use message_net::{Actor, Event, MailId};
 use std::alloc::Global;
-use text_pieces::push;
+use text_pieces::{push, push_field, push_source};
 
 #[tactic(auto, unfolding(crate::specs::Document::shape_line))]
 fn push_shape(out: &mut Vec<u8>, shape: TraceShape) -> Result<(), Memory>

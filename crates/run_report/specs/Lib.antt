@@ -1,5 +1,6 @@
 pub mod Answer
-pub mod Refusal
 pub mod Grants
-pub mod Summary
+pub mod Refusal
 pub mod Run
+pub mod Summary
+pub mod Texts

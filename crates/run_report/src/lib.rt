@@ -6,12 +6,14 @@
 
 mod answer;
 mod grants;
+mod programs;
 mod refusal;
 mod run;
 mod totals;
 
 pub use answer::{answer_text, kind_name, outcome_name, push_end};
 pub use grants::grant_text;
+pub use programs::{Stop, checked_of, program_of};
 pub use refusal::{Refusal, refusal_line};
 pub use run::{event_name, report};
 pub use totals::{checked_line, summary};

@@ -1,1 +1,6 @@
 pub mod Each
+pub mod Exact
+pub mod Followed
+pub mod Held
+pub mod Listed
+pub mod Steps

@@ -4,9 +4,9 @@ use Rattle.text_pieces.specs.Pieces.{newline, space}
 use Rattle.region_table.specs.Program.{ProgramParts}
 use Rattle.message_net.specs.declared.event.Event.{Event}
 use Rattle.message_net.specs.declared.event.Event.TheVariants.{Instr, Evict, Arrive, Handle}
-use Rattle.place_texts.specs.Texts.{lock_text}
-use Rattle.event_reasons.specs.declared.reason.Reason.{Reason}
-use Rattle.event_reasons.specs.declared.reason.Reason as reason
+use Rattle.text_places.specs.Texts.{lock_text}
+use Rattle.state_text.specs.declared.reason.Reason.{Reason}
+use Rattle.state_text.specs.declared.reason.Reason as reason
 use Rattle.state_text.specs.Called.{data_word_text, numbered_core, numbered_mail}
 
 -- what a reason says of the core or mail of an event: the words before the data words or the lock that it names, these, and the

@@ -10,7 +10,7 @@ use Rattle.message_net.specs.declared.event.Event.{Event}
 use Rattle.message_net.specs.declared.event.Event.TheVariants.{Instr, Evict, Arrive, Handle}
 use Rattle.text_places.specs.declared.words.WordPlace.{WordPlace}
 use Rattle.text_places.specs.Words.{word_place}
-use Rattle.place_texts.specs.Texts.{word_text}
+use Rattle.text_places.specs.Texts.{word_text}
 
 -- a data word by its region and index, and its number: `m[3] (word 7)`; by its number alone if no region has it
 unfoldable pub number_beside : ℕ → List ℕ

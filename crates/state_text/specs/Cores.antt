@@ -19,8 +19,8 @@ use Rattle.registration_protocol.specs.declared.node.NodeWait.{NodeWait}
 use Rattle.registration_protocol.specs.Node.{NodeParts}
 use Rattle.text_places.specs.declared.places.CodePlace.{CodePlace}
 use Rattle.text_places.specs.declared.places.Places.{Places}
-use Rattle.place_texts.specs.Texts.{code_text, lock_text}
-use Rattle.event_reasons.specs.Coming.{pairs_by_set}
+use Rattle.text_places.specs.Texts.{code_text, lock_text}
+use Rattle.state_text.specs.Coming.{pairs_by_set}
 use Rattle.state_text.specs.Called.{data_word_text, numbered_core}
 
 unfoldable pub phase_line : NodeParts → List ℕ

@@ -1,5 +1,9 @@
-pub mod Called
 pub mod Because
+pub mod Called
+pub mod Coming
 pub mod Cores
+pub mod Holding
 pub mod Parts
+pub mod Reached
+pub mod Reasons
 pub mod Shown

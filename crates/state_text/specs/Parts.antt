@@ -20,7 +20,7 @@ use Rattle.phase_barrier.specs.Barrier.{Barrier, has_arrived}
 use Rattle.registration_protocol.specs.Messages.{guarded_by}
 use Rattle.machine_rules.specs.State.{State, home_at, lock_at}
 use Rattle.run_report.specs.Run.{event_word}
-use Rattle.place_texts.specs.Texts.{lock_text}
+use Rattle.text_places.specs.Texts.{lock_text}
 use Rattle.state_text.specs.declared.signed.Signed.{Signed}
 use Rattle.state_text.specs.declared.signed.Signed.TheVariants.{Lock as OfLock, Mail as OfMail}
 use Rattle.state_text.specs.Called.{data_word_text, numbered_core, receiver_text, numbered_mail}

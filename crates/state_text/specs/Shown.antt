@@ -7,8 +7,8 @@ use Rattle.region_table.specs.Program.{ProgramParts}
 use Rattle.message_net.specs.declared.event.Event.{Event}
 use Rattle.text_places.specs.declared.places.Places.{Places}
 use Rattle.machine_rules.specs.State.{State}
-use Rattle.event_reasons.specs.Reasons.{reason_against}
-use Rattle.event_reasons.specs.Coming.{enabled_events}
+use Rattle.state_text.specs.Reasons.{reason_against}
+use Rattle.state_text.specs.Coming.{enabled_events}
 use Rattle.state_text.specs.Called.{event_text}
 use Rattle.state_text.specs.Because.{whether_line}
 use Rattle.state_text.specs.Cores.{core_lines}

@@ -2,13 +2,13 @@
 ghost use Rattle.std.specs.Prelude.{◌≡◌, ◌++◌, OnOk};
 ghost use Rattle.state_text.specs.Because.{reason_before, another_set, two_words_text, reason_names, reason_behind, reason_text, subject_text, may_line, may_not_line, whether_line};
 
+use crate::Reason;
 use crate::called::{push_core, push_data_word, push_mail};
 use dn_base::{Memory, WordId};
-use event_reasons::Reason;
 use message_net::Event;
-use place_texts::push_lock;
 use region_table::Program;
 use text_pieces::push;
+use text_places::push_lock;
 
 /// What stands before the words or the lock that a reason names.
 #[tactic(auto, unfolding(crate::specs::Because::reason_before))]

@@ -7,10 +7,9 @@ ghost use Rattle.state_text.specs.Called.{number_beside, data_word_text, numbere
 
 use dn_base::{CoreId, Memory, WordId};
 use message_net::{Actor, Event, MailId};
-use place_texts::push_word;
 use region_table::Program;
 use text_pieces::{push, push_decimal};
-use text_places::region_of_word;
+use text_places::{push_word, region_of_word};
 
 #[tactic(auto, unfolding(crate::specs::Called::number_beside))]
 fn push_number_beside(out: &mut Vec<u8>, word: u32) -> Result<(), Memory>

@@ -6,12 +6,11 @@ use crate::called::{push_core, push_data_word};
 use crate::entries::push_entries;
 use crate::tasks::{push_held, push_task};
 use dn_base::{CoreId, LockId, Memory, WordId};
-use place_texts::push_lock;
 use region_table::Program;
 use registration_protocol::{Node, NodeWait};
 use std::alloc::Global;
 use text_pieces::{push, push_decimal};
-use text_places::Places;
+use text_places::{Places, push_lock};
 
 #[tactic(auto, unfolding(crate::specs::Cores::phase_line))]
 fn push_phase(out: &mut Vec<u8>, node: &Node) -> Result<(), Memory>

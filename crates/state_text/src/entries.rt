@@ -3,8 +3,8 @@ ghost use Rattle.std.specs.Prelude.{◌≡◌, ◌++◌, flat_map, OnOk};
 ghost use Rattle.state_text.specs.Cores.{flag_text, entry_word, value_of_entry, entry_flag, entry_text, entry_line, entry_lines};
 
 use crate::called::{push_core, push_data_word};
+use crate::pairs_by_set;
 use dn_base::{CoreId, Memory, WordId};
-use event_reasons::pairs_by_set;
 use region_table::Program;
 use registration_protocol::Node;
 use std::alloc::Global;

@@ -8,10 +8,10 @@ use crate::signing::push_signature;
 use dn_base::{CoreId, LockId, Memory, PhaseId, WordId};
 use dn_machine::Machine;
 use message_net::{Mail, MailId, Message};
-use place_texts::push_lock;
 use region_table::Program;
 use run_report::event_name;
 use text_pieces::{push, push_decimal, push_hexadecimal};
+use text_places::push_lock;
 
 #[tactic(auto, unfolding(crate::specs::Parts::of_word))]
 fn push_of_word(out: &mut Vec<u8>, program: &Program, word: WordId) -> Result<(), Memory>

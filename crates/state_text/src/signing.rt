@@ -9,9 +9,9 @@ use crate::called::{push_data_word, push_mail};
 use crate::signed::Signed;
 use dn_base::{LockId, Memory, PhaseId, WordId};
 use dn_machine::Machine;
-use place_texts::push_lock;
 use region_table::{Interval, Program, WordSet};
 use text_pieces::push;
+use text_places::push_lock;
 use write_signature::Signature;
 
 /// Adds a lock by its name and number, as its lines begin.

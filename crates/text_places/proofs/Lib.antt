@@ -1,6 +1,6 @@
-pub mod SizeLemmas
-pub mod PlaceLemmas
-pub mod LineLemmas
-pub mod WordLemmas
 pub mod CutLemmas
+pub mod LineLemmas
+pub mod PlaceLemmas
 pub mod SearchLemmas
+pub mod SizeLemmas
+pub mod WordLemmas

@@ -1,4 +1,5 @@
-pub mod Places
-pub mod Words
 pub mod Lines
+pub mod Places
+pub mod Texts
 pub mod Walk
+pub mod Words

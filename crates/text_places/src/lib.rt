@@ -5,6 +5,7 @@
 mod laws;
 mod lines;
 mod places;
+mod texts;
 mod words;
 
 pub use laws::{
@@ -12,4 +13,5 @@ pub use laws::{
 };
 pub use lines::line_text;
 pub use places::{CodePlace, Located, Places, TaskPlace, located_program};
+pub use texts::{push_address, push_code_place, push_lock, push_quoted_line, push_word};
 pub use words::{WordPlace, region_of_word};

@@ -9,4 +9,10 @@ mod calls;
 #[cfg(test)]
 mod meeting;
 #[cfg(test)]
+mod passes;
+#[cfg(test)]
+mod rounds;
+#[cfg(test)]
+mod texts;
+#[cfg(test)]
 mod turns;

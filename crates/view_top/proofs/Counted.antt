@@ -2,14 +2,14 @@
 use Rattle.std.proofs.Common.{◌≡◌, ◌++◌, List, ℕ, Result, Ok, Err, IfOk, ap, ◌∙◌}
 use Rattle.region_table.specs.Program.{ProgramParts}
 use Rattle.rv_assembler.specs.Source.{source}
-use Rattle.account_table.specs.Tallies.{Tallies}
-use Rattle.account_text.specs.declared.form.Form.{Form}
-use Rattle.account_text.specs.Forms.{account_text}
-use Rattle.front_end.specs.Texts.{HasProgram}
-use Rattle.dn_top.specs.Documents.{shape_told}
+use Rattle.run_account.specs.Tallies.{Tallies}
+use Rattle.run_account.specs.declared.form.Form.{Form}
+use Rattle.run_account.specs.Forms.{account_text}
+use Rattle.run_report.specs.Texts.{HasProgram}
+use Rattle.checked_runs.specs.Documents.{shape_told}
 use Rattle.view_top.specs.Status.{Output}
 use Rattle.view_top.specs.declared.documents.KeptRun.{KeptRun}
-use Rattle.view_words.specs.declared.options.AccountOptions.{AccountOptions}
+use Rattle.view_top.specs.declared.options.AccountOptions.{AccountOptions}
 use Rattle.view_top.specs.Answers.{heading_of, made, IsAccount, IsAccountOf}
 use Rattle.view_top.proofs.Kept.{of-program, at-program}
 

@@ -13,16 +13,15 @@ use Rattle.dn_machine.specs.Settings.{IsRunOn}
 use Rattle.dn_machine.proofs.OneSetting.{same-setting}
 use Rattle.run_replay.specs.declared.trace.Trace.{Trace}
 use Rattle.run_replay.specs.Document.{IsDocument}
-use Rattle.front_end.specs.declared.programs.Stop.{Stop}
-use Rattle.front_end.specs.declared.programs.Stop.TheVariants.{Refused, Memory}
-use Rattle.front_end.specs.Texts.{HasChecked, HasProgram, IsStop}
-use Rattle.dn_top.specs.Answers.{IsRefusedDocument}
-use Rattle.dn_top.specs.Documents.{shape_told, HasTrace, IsNoRun, IsRunTold}
-use Rattle.dn_top.specs.Runs.{IsPrintable}
-use Rattle.dn_top.proofs.OneProgram.{one-program}
+use Rattle.run_report.specs.declared.programs.Stop.{Stop}
+use Rattle.run_report.specs.declared.programs.Stop.TheVariants.{Refused, Memory}
+use Rattle.run_report.specs.Texts.{HasChecked, HasProgram, IsStop}
+use Rattle.checked_runs.specs.Documents.{IsRefusedDocument, shape_told, HasTrace, IsNoRun, IsRunTold}
+use Rattle.checked_runs.specs.Runs.{IsPrintable}
+use Rattle.run_report.proofs.OneProgram.{one-program}
 use Rattle.view_top.specs.Status.{Output}
 use Rattle.view_top.specs.declared.documents.KeptRun.{KeptRun}
-use Rattle.view_words.specs.declared.options.StateOptions.{StateOptions}
+use Rattle.view_top.specs.declared.options.StateOptions.{StateOptions}
 use Rattle.view_top.specs.Answers.{HasKeptRun, IsStateShown}
 use Rattle.view_top.specs.Kept.{kept_run_of, IsFit, IsKeptRun, IsViewable}
 

@@ -1,5 +1,6 @@
-pub mod Kept
-pub mod Pictures
-pub mod Paged
+pub mod Commands
 pub mod Counted
+pub mod Kept
+pub mod Paged
+pub mod Pictures
 pub mod Shown

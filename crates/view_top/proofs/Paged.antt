@@ -5,10 +5,10 @@ use Rattle.run_timing.specs.declared.ticks.Ticks.{Ticks}
 use Rattle.run_timing.specs.declared.timing.Timing.{Timing}
 use Rattle.page_data.specs.declared.page.Page.{Page}
 use Rattle.page_data.specs.Page.{IsPageOf}
-use Rattle.front_end.specs.Texts.{HasProgram}
-use Rattle.dn_top.specs.Documents.{shape_told}
+use Rattle.run_report.specs.Texts.{HasProgram}
+use Rattle.checked_runs.specs.Documents.{shape_told}
 use Rattle.view_top.specs.declared.documents.KeptRun.{KeptRun}
-use Rattle.view_words.specs.declared.options.PageOptions.{PageOptions}
+use Rattle.view_top.specs.declared.options.PageOptions.{PageOptions}
 use Rattle.view_top.specs.Answers.{last_number, made, page_ticks, IsPageData, IsPageFor}
 use Rattle.view_top.specs.Kept.{IsKeptTiming}
 use Rattle.view_top.proofs.Kept.{at-program}

@@ -12,11 +12,11 @@ use Rattle.message_chart.specs.declared.chart.Chart.{Chart}
 use Rattle.message_chart.specs.Picture.{svg_of}
 use Rattle.run_chart.specs.declared.drawing.Range.{Range}
 use Rattle.run_chart.specs.Charts.{IsChartOf}
-use Rattle.front_end.specs.Texts.{HasProgram}
-use Rattle.dn_top.specs.Documents.{shape_told}
+use Rattle.run_report.specs.Texts.{HasProgram}
+use Rattle.checked_runs.specs.Documents.{shape_told}
 use Rattle.view_top.specs.Status.{Output}
 use Rattle.view_top.specs.declared.documents.KeptRun.{KeptRun}
-use Rattle.view_words.specs.declared.options.ChartOptions.{ChartOptions}
+use Rattle.view_top.specs.declared.options.ChartOptions.{ChartOptions}
 use Rattle.view_top.specs.Answers.{IsPicture, chart_ticks, last_number, located, made, range_for}
 use Rattle.view_top.specs.Kept.{IsKeptChain, IsKeptTiming}
 use Rattle.view_top.proofs.Kept.{at-program}

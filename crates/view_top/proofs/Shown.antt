@@ -6,10 +6,10 @@ use Rattle.text_places.specs.declared.places.Places.{Places}
 use Rattle.text_places.specs.Places.{text_places}
 use Rattle.message_net.specs.declared.event.Event.{Event}
 use Rattle.run_replay.specs.declared.trace.Trace.{Trace}
-use Rattle.reached_state.specs.declared.answer.StateAnswer.{StateAnswer}
-use Rattle.reached_state.specs.Reached.{IsAnswerOf}
-use Rattle.dn_top.specs.Documents.{shape_told}
-use Rattle.view_words.specs.declared.options.StateOptions.{StateOptions}
+use Rattle.state_text.specs.declared.answer.StateAnswer.{StateAnswer}
+use Rattle.state_text.specs.Reached.{IsAnswerOf}
+use Rattle.checked_runs.specs.Documents.{shape_told}
+use Rattle.view_top.specs.declared.options.StateOptions.{StateOptions}
 use Rattle.view_top.specs.declared.status.ViewStatus.{ViewStatus}
 use Rattle.view_top.specs.Answers.{status_at, IsStateShown}
 

@@ -15,32 +15,31 @@ use Rattle.run_timing.specs.declared.ticks.Ticks.{Ticks}
 use Rattle.run_timing.specs.declared.timing.Timing.{Timing}
 use Rattle.run_timing.specs.Ticks.{ticks_by}
 use Rattle.run_timing.specs.Longest.{IsTimingOf, numbers_in}
-use Rattle.account_table.specs.declared.item.Grouping.{Grouping}
-use Rattle.account_table.specs.Tallies.{Tallies}
+use Rattle.run_account.specs.declared.item.Grouping.{Grouping}
+use Rattle.run_account.specs.Tallies.{Tallies}
 use Rattle.run_account.specs.Account.{no_account, account_of_run}
-use Rattle.account_text.specs.declared.form.Form.{Form}
-use Rattle.account_text.specs.declared.form.Form as form
-use Rattle.account_text.specs.Forms.{account_text}
+use Rattle.run_account.specs.declared.form.Form.{Form}
+use Rattle.run_account.specs.declared.form.Form as form
+use Rattle.run_account.specs.Forms.{account_text}
 use Rattle.message_chart.specs.declared.chart.Chart.{Chart}
 use Rattle.message_chart.specs.Picture.{svg_of}
 use Rattle.run_chart.specs.declared.drawing.Range.{Range}
 use Rattle.run_chart.specs.Charts.{IsChartOf}
-use Rattle.reached_state.specs.declared.answer.StateAnswer.{StateAnswer}
-use Rattle.reached_state.specs.Reached.{IsAnswerOf}
+use Rattle.state_text.specs.declared.answer.StateAnswer.{StateAnswer}
+use Rattle.state_text.specs.Reached.{IsAnswerOf}
 use Rattle.page_data.specs.declared.page.Page.{Page}
 use Rattle.page_data.specs.Page.{IsPageOf}
-use Rattle.front_end.specs.Texts.{HasChecked, IsUnfit}
+use Rattle.run_report.specs.Texts.{HasChecked, IsUnfit}
 use Rattle.program_outside.specs.Serving.{usage_line}
-use Rattle.dn_top.specs.Answers.{IsRefusedDocument}
-use Rattle.dn_top.specs.Documents.{HasTrace, IsNoDocument, IsRunTold, shape_told}
-use Rattle.dn_top.specs.Runs.{reported}
+use Rattle.checked_runs.specs.Documents.{IsRefusedDocument, HasTrace, IsNoDocument, IsRunTold, shape_told}
+use Rattle.checked_runs.specs.Runs.{reported}
 use Rattle.view_top.specs.Status.{Output}
-use Rattle.view_words.specs.declared.options.View.{View}
-use Rattle.view_words.specs.declared.options.View.TheVariants as view
-use Rattle.view_words.specs.declared.options.ChartOptions.{ChartOptions}
-use Rattle.view_words.specs.declared.options.AccountOptions.{AccountOptions}
-use Rattle.view_words.specs.declared.options.StateOptions.{StateOptions}
-use Rattle.view_words.specs.declared.options.PageOptions.{PageOptions}
+use Rattle.view_top.specs.declared.options.View.{View}
+use Rattle.view_top.specs.declared.options.View.TheVariants as view
+use Rattle.view_top.specs.declared.options.ChartOptions.{ChartOptions}
+use Rattle.view_top.specs.declared.options.AccountOptions.{AccountOptions}
+use Rattle.view_top.specs.declared.options.StateOptions.{StateOptions}
+use Rattle.view_top.specs.declared.options.PageOptions.{PageOptions}
 use Rattle.view_top.specs.declared.status.ViewStatus.{ViewStatus}
 use Rattle.view_top.specs.declared.status.ViewStatus.TheVariants as status
 

@@ -8,9 +8,9 @@ use Rattle.run_replay.specs.Document.{IsTraceShape}
 use Rattle.run_timing.specs.declared.ticks.Ticks.{Ticks}
 use Rattle.run_timing.specs.declared.timing.Timing.{Timing}
 use Rattle.run_timing.specs.Longest.{IsTimingOf, numbers_in}
-use Rattle.front_end.specs.Texts.{HasChecked}
-use Rattle.dn_top.specs.Documents.{shape_told, IsRunTold}
-use Rattle.dn_top.specs.Runs.{IsPrintable}
+use Rattle.run_report.specs.Texts.{HasChecked}
+use Rattle.checked_runs.specs.Documents.{shape_told, IsRunTold}
+use Rattle.checked_runs.specs.Runs.{IsPrintable}
 use Rattle.view_top.specs.declared.documents.KeptRun.{KeptRun}
 
 -- the machine's size, the text and the run of a document

@@ -1,31 +1,26 @@
 //! The mode account: what a run cost and why, in numbers.
 ghost use Rattle.std.specs.Prelude.{◌≡◌, ◌≤◌, ◌++◌, length, IfOk, IfErr};
-ghost use Rattle.account_text.specs.Forms.{account_text};
+ghost use Rattle.run_account.specs.Forms.{account_text};
 ghost use Rattle.run_replay.specs.Document.{IsTraceShape};
 ghost use Rattle.dn_machine.specs.Settings.{IsRunOn};
-ghost use Rattle.front_end.specs.Texts.{HasProgram, IsStop};
-ghost use Rattle.dn_top.specs.Answers.{IsRefusedDocument};
-ghost use Rattle.dn_top.specs.Documents.{shape_told};
-ghost use Rattle.dn_top.specs.Runs.{IsPrintable};
-ghost use Rattle.view_words.specs.declared.options.View.TheVariants as view;
+ghost use Rattle.run_report.specs.Texts.{HasProgram, IsStop};
+ghost use Rattle.checked_runs.specs.Documents.{IsRefusedDocument, shape_told};
+ghost use Rattle.checked_runs.specs.Runs.{IsPrintable};
+ghost use Rattle.view_top.specs.declared.options.View.TheVariants as view;
 ghost use Rattle.view_top.specs.Answers.{heading_of, made, view_made, IsAccount, IsAccountOf};
 ghost use Rattle.view_top.specs.Kept.{IsViewable};
 
+use crate::AccountOptions;
 use crate::answering::{Output, done_with};
 use crate::documents::{KeptRun, kept_run, program_in, shape_of};
-use account_table::Grouping;
-use account_text::{Form, push_account};
 use dn_base::Memory;
-use dn_machine::{Machine, a_machine_is_kept};
-use dn_top::RunRecord;
+use dn_machine::{Machine, RunRecord, a_machine_is_kept};
 use effect_checker::Checked;
-use front_end::Stop;
 use message_net::Event;
-use run_account::{Account, account_of};
+use run_account::{Account, Form, Grouping, account_of, push_account};
 use run_replay::TraceShape;
-use run_report::report;
+use run_report::{Stop, report};
 use std::alloc::Global;
-use view_words::AccountOptions;
 
 /// The account of a run's events, in these groups.
 fn counted(

@@ -1,18 +1,17 @@
 ghost use Rattle.std.specs.Prelude.{◌≡◌, ◌≢◌, IfOk, IfErr};
-ghost use Rattle.front_end.specs.Texts.{IsStop};
+ghost use Rattle.run_report.specs.Texts.{IsStop};
 ghost use Rattle.view_top.specs.Answers.{made, usage, view_made, view_refused, IsAnswer};
-ghost use Rattle.view_words.specs.Command.{IsViewInRange};
+ghost use Rattle.view_top.specs.Command.{IsViewInRange};
 
+use crate::View;
 use crate::accounts::account_document;
 use crate::charts::draw_document;
 use crate::pages::page_document;
 use crate::states::show_state;
 use crate::status::ViewStatus;
 use dn_base::{Memory, Sequence};
-use front_end::Stop;
-use run_report::{Refusal, refusal_line};
+use run_report::{Refusal, Stop, refusal_line};
 use std::alloc::Global;
-use view_words::View;
 
 /// A status, and all bytes that are to be written.
 pub type Output = program_outside::Output<ViewStatus>;

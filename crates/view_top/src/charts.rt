@@ -4,25 +4,24 @@ ghost use Rattle.run_timing.specs.Longest.{numbers_in};
 ghost use Rattle.run_timing.specs.Ticks.{AreWithinLimits};
 ghost use Rattle.message_chart.specs.Picture.{svg_of};
 ghost use Rattle.run_chart.specs.Charts.{IsChartOf};
-ghost use Rattle.front_end.specs.Texts.{HasProgram, IsStop};
-ghost use Rattle.dn_top.specs.Answers.{IsRefusedDocument};
-ghost use Rattle.dn_top.specs.Documents.{shape_told};
-ghost use Rattle.view_words.specs.declared.options.View.TheVariants as view;
+ghost use Rattle.run_report.specs.Texts.{HasProgram, IsStop};
+ghost use Rattle.checked_runs.specs.Documents.{IsRefusedDocument, shape_told};
+ghost use Rattle.view_top.specs.declared.options.View.TheVariants as view;
 ghost use Rattle.view_top.specs.Answers.{chart_ticks, last_number, located, made, range_for, view_made, IsDrawn, IsPicture};
-ghost use Rattle.view_words.specs.Command.{IsChartInRange};
+ghost use Rattle.view_top.specs.Command.{IsChartInRange};
 ghost use Rattle.view_top.specs.Kept.{IsFit, IsKeptChain, IsViewable};
 
+use crate::ChartOptions;
 use crate::answering::{Output, done_with, refused_words};
 use crate::documents::{KeptRun, kept_run, places_in, program_in, shape_of};
 use crate::timings::timing_of;
 use dn_base::{Memory, Sequence};
-use front_end::Stop;
 use message_chart::{Chart, chart_text};
 use message_net::Event;
 use run_chart::{Columns, Range, chart};
+use run_report::Stop;
 use run_timing::{Link, Ticks};
 use std::alloc::Global;
-use view_words::ChartOptions;
 
 /// The range of events that the options ask for.
 fn range_for(options: &ChartOptions) -> Range

@@ -4,18 +4,21 @@
 mod accounts;
 mod answering;
 mod charts;
+mod command;
 mod documents;
+mod options;
 mod pages;
 mod program;
+mod reading;
 mod serving;
 mod states;
 mod status;
 mod timings;
 
 pub use answering::{Output, answer};
+pub use command_words::WordsFault;
+pub use options::{AccountOptions, ChartOptions, PageOptions, StateOptions, View};
 pub use program::view_program;
+pub use reading::read_words;
 pub use serving::{Viewer, view_main};
 pub use status::ViewStatus;
-pub use view_words::{
-    AccountOptions, ChartOptions, PageOptions, StateOptions, View, WordsFault, read_words,
-};

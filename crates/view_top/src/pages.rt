@@ -2,26 +2,25 @@
 ghost use Rattle.std.specs.Prelude.{◌≡◌, ◌≤◌, IfOk, IfErr};
 ghost use Rattle.run_timing.specs.Ticks.{AreWithinLimits};
 ghost use Rattle.page_data.specs.Page.{IsPageOf};
-ghost use Rattle.front_end.specs.Texts.{HasProgram, IsStop};
-ghost use Rattle.dn_top.specs.Answers.{IsRefusedDocument};
-ghost use Rattle.dn_top.specs.Documents.{shape_told};
-ghost use Rattle.view_words.specs.declared.options.View.TheVariants as view;
+ghost use Rattle.run_report.specs.Texts.{HasProgram, IsStop};
+ghost use Rattle.checked_runs.specs.Documents.{IsRefusedDocument, shape_told};
+ghost use Rattle.view_top.specs.declared.options.View.TheVariants as view;
 ghost use Rattle.view_top.specs.Answers.{last_number, page_ticks, view_made, IsPageData, IsPageFor, IsPaged};
-ghost use Rattle.view_words.specs.Command.{IsPageInRange};
+ghost use Rattle.view_top.specs.Command.{IsPageInRange};
 ghost use Rattle.view_top.specs.Kept.{IsViewable};
 
+use crate::PageOptions;
 use crate::answering::{Output, output, refused_words};
 use crate::charts::last_number;
 use crate::documents::{KeptRun, kept_run, program_in, shape_of};
 use crate::status::ViewStatus;
 use crate::timings::timing_of;
 use dn_base::{Memory, Sequence};
-use dn_top::RunRecord;
-use front_end::Stop;
+use dn_machine::RunRecord;
 use page_data::{Page, page_text};
+use run_report::Stop;
 use run_timing::{Ticks, Timing};
 use std::alloc::Global;
-use view_words::PageOptions;
 
 /// The ticks that the options give to each kind of event.
 fn page_ticks(options: &PageOptions) -> Ticks

@@ -3,15 +3,15 @@ ghost use Rattle.program_outside.specs.Outside.{devices_of};
 ghost use Rattle.program_outside.specs.Serving.{Serves};
 ghost use Rattle.view_top.specs.Answers.{IsAnswer as IsOutputFor};
 ghost use Rattle.view_top.specs.Status.{view_told};
-ghost use Rattle.view_words.specs.Command.{view_of, IsViewInRange};
+ghost use Rattle.view_top.specs.Command.{view_of, IsViewInRange};
 
 use crate::answering::{Output, answer};
 use crate::status::ViewStatus;
+use crate::{View, read_words};
 use command_words::WordsFault;
 use dn_base::{Memory, Sink, Source};
 use program_outside::{Answers, Program, serve_words};
 use std::alloc::Global;
-use view_words::{View, read_words};
 
 /// The program view: from a view and the document of a run to what is to be seen of the run.
 pub struct Viewer;

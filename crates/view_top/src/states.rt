@@ -2,23 +2,23 @@
 ghost use Rattle.std.specs.Prelude.{◌≡◌, ◌≤◌, length, IfOk, IfErr};
 ghost use Rattle.run_replay.specs.Document.{IsTrace};
 ghost use Rattle.text_places.specs.Places.{text_places};
-ghost use Rattle.front_end.specs.Texts.{IsStop};
-ghost use Rattle.view_words.specs.declared.options.View.TheVariants as view;
+ghost use Rattle.run_report.specs.Texts.{IsStop};
+ghost use Rattle.view_top.specs.declared.options.View.TheVariants as view;
 ghost use Rattle.view_top.specs.Answers.{status_at, view_made, IsStateShown, IsWithoutProgram};
 ghost use Rattle.view_top.specs.Kept.{IsFit};
 
+use crate::StateOptions;
 use crate::answering::{Output, output, refused_words};
 use crate::documents::{places_in, shape_of};
 use crate::status::ViewStatus;
+use checked_runs::trace_in;
 use dn_base::{Memory, Sequence};
-use dn_top::trace_in;
 use effect_checker::Checked;
-use front_end::{Stop, checked_of};
-use reached_state::state_at;
 use run_replay::Trace;
+use run_report::{Stop, checked_of};
+use state_text::state_at;
 use std::alloc::Global;
 use text_places::Places;
-use view_words::StateOptions;
 
 /// The status of a state before the event at `place`, if the event `asked` was asked for.
 fn status_at(asked: u32, place: u32) -> ViewStatus

@@ -1,7 +1,7 @@
 //! The timing of a document's run.
 ghost use Rattle.std.specs.Prelude.{◌≡◌, IfOk};
 ghost use Rattle.run_timing.specs.Ticks.{AreWithinLimits};
-ghost use Rattle.front_end.specs.Texts.{HasProgram};
+ghost use Rattle.run_report.specs.Texts.{HasProgram};
 ghost use Rattle.view_top.specs.Kept.{IsKeptTiming, IsViewable};
 
 use crate::documents::{KeptRun, program_in, shape_of};

@@ -1,9 +1,8 @@
 ghost use Rattle.std.specs.Thread.{IsSync};
 
 use crate::running::run;
-use case_files::{BadForm, Case, CaseRunner, Stop, Trouble};
+use case_files::{BadForm, Case, CaseRunner, Report, Stop, Trouble};
 use case_machine::{Got, judge, play};
-use case_report::Report;
 use dn_base::Memory;
 use std::alloc::Global;
 use std::sync::Wait;

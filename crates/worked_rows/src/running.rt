@@ -1,6 +1,5 @@
-use case_files::Case;
+use case_files::{Case, Written};
 use case_machine::Got;
-use case_report::Written;
 use dn_base::{Memory, OpenGate, TextSource, VecSink};
 use dn_top::{Answer, denovo_main};
 use std::alloc::Global;

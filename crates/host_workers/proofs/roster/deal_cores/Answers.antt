@@ -2,7 +2,7 @@ use Rattle.std.proofs.Common.{◌≡◌, ◌<◌, ◌%◌, length, slice_get, So
 use Rattle.std.proofs.lemmas.Option.{slice_get_read}
 use Rattle.std.proofs.lemmas.Iterator.Consumers.{YieldsList-end}
 use Rattle.std.proofs.lemmas.Iterator.Adapters.{YieldsList-from_vec}
-use Rattle.flat_agreement.proofs.Places.{set-length}
+use Rattle.run_agreement.proofs.Places.{set-length}
 use Rattle.host_workers.specs.declared.crew.Crew.{Crew}
 use Rattle.host_workers.specs.Rosters.{AreCrewsOf}
 use Rattle.host_workers.proofs.Dealing.{core-dealt}

@@ -1,6 +1,6 @@
 use Rattle.std.proofs.Common.{◌≡◌, ◌+◌, ◌-◌, ◌<◌, ◌%◌, ◌++◌, length, slice_get, slice_set, Some, option_to_list, refl, sym, ap, ◌∙◌, subst, arith}
 use Rattle.std.proofs.lemmas.Option.{slice_get_read}
-use Rattle.flat_agreement.proofs.Places.{set-length}
+use Rattle.run_agreement.proofs.Places.{set-length}
 use Rattle.host_workers.specs.declared.crew.Crew.{Crew}
 use Rattle.host_workers.proofs.Dealing.{CoresBack, cores-begun, cores-ended, core-waits, core-gathered}
 use Rattle.host_workers.proofs.roster.gather_cores.Goals as goal

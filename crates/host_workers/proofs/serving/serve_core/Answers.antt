@@ -2,7 +2,7 @@ use Rattle.std.proofs.Common.{◌<◌, sym, ap, ◌∙◌, subst}
 use Rattle.registration_protocol.specs.Setting.{setting}
 use Rattle.dn_base.specs.declared.ids.CoreId.{CoreId}
 use Rattle.registration_protocol.specs.Fit.{Fits}
-use Rattle.stamped_mail.specs.Stamps.{has_numbers_left}
+use Rattle.grant_log.specs.Stamps.{has_numbers_left}
 use Rattle.round_rules.specs.Passes.{Held}
 use Rattle.host_workers.specs.Crews.{held_of}
 use Rattle.host_workers.specs.Work.{HasTaken, HasMadeOwn}

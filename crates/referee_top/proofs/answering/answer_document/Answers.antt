@@ -1,7 +1,7 @@
 use Rattle.std.proofs.Common.{inr, ℕ, List}
-use Rattle.claim_document.specs.declared.claim.GrantOrder.{GrantOrder}
-use Rattle.claim_document.specs.Alone.{IsOrderDocument}
-use Rattle.claim_judge.specs.Right.{IsRightClaim}
+use Rattle.claims.specs.declared.claim.GrantOrder.{GrantOrder}
+use Rattle.claims.specs.Alone.{IsOrderDocument}
+use Rattle.claims.specs.Right.{IsRightClaim}
 use Rattle.region_table.specs.Program.{ProgramParts}
 use Rattle.referee_top.specs.declared.mode.RefereeMode as mode
 use Rattle.referee_top.specs.Answers.{Reply, IsOrdered, IsUnwritten, mode_done, refused_with}

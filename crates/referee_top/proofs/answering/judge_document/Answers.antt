@@ -1,6 +1,6 @@
-use Rattle.claim_document.specs.declared.claim.Claim.{Claim}
-use Rattle.claim_document.specs.Claim.{IsClaimDocument}
-use Rattle.claim_judge.proofs.Verdicts.{judgeable}
+use Rattle.claims.specs.declared.claim.Claim.{Claim}
+use Rattle.claims.specs.Claim.{IsClaimDocument}
+use Rattle.claims.proofs.Verdicts.{judgeable}
 use Rattle.region_table.specs.Program.{ProgramParts}
 use Rattle.referee_top.specs.Answers.{IsJudged}
 use Rattle.referee_top.proofs.Told.{told}

@@ -1,7 +1,7 @@
 use Rattle.std.proofs.Common.{inr, ℕ, List}
-use Rattle.claim_document.specs.declared.claim.Question.{Question}
-use Rattle.claim_document.specs.Alone.{IsQuestionDocument}
-use Rattle.claim_judge.specs.Right.{IsLeastClaim}
+use Rattle.claims.specs.declared.claim.Question.{Question}
+use Rattle.claims.specs.Alone.{IsQuestionDocument}
+use Rattle.claims.specs.Right.{IsLeastClaim}
 use Rattle.region_table.specs.Program.{ProgramParts}
 use Rattle.referee_top.specs.declared.mode.RefereeMode as mode
 use Rattle.referee_top.specs.Answers.{Reply, IsLeastReply, IsUnwritten, mode_done, refused_with}

@@ -1,5 +1,5 @@
 use Rattle.message_net.specs.declared.event.EventKind.TheVariants.{Evict}
-use Rattle.account_table.specs.declared.measure.Measure.TheVariants.{EvictedCopies, EvictedRegistered}
+use Rattle.run_account.specs.declared.measure.Measure.TheVariants.{EvictedCopies, EvictedRegistered}
 use Rattle.run_account.specs.Departures.{no_departures}
 use Rattle.run_account.specs.Handings.{no_handings}
 use Rattle.run_account.proofs.Told.{all-told}

@@ -1,4 +1,4 @@
-use Rattle.document_parts.proofs.Fields.{if-none}
+use Rattle.text_pieces.proofs.Fields.{if-none}
 use Rattle.run_replay.proofs.Found.{none-event, instr-event, evict-event, arrive-event, handle-event}
 use Rattle.run_replay.proofs.events.event.Goals as goal
 

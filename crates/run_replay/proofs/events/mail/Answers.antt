@@ -1,4 +1,4 @@
-use Rattle.document_parts.proofs.Fields.{if-none}
+use Rattle.text_pieces.proofs.Fields.{if-none}
 use Rattle.run_replay.proofs.Found.{none-mail, core-mail, bank-mail, keeper-mail}
 use Rattle.run_replay.proofs.events.mail.Goals as goal
 

@@ -1,8 +1,8 @@
 use Rattle.std.proofs.Common.{◌++◌, [], refl, sym, ap, ◌∙◌, arith}
 use Rattle.text_pieces.specs.Pieces.{newline, space}
-use Rattle.document_parts.specs.Field.{field}
-use Rattle.document_parts.proofs.Fields.{if-none}
-use Rattle.document_parts.proofs.Forms.{field-next}
+use Rattle.text_pieces.specs.Field.{field}
+use Rattle.text_pieces.proofs.Fields.{if-none}
+use Rattle.text_pieces.proofs.Forms.{field-next}
 use Rattle.run_replay.proofs.Found.{two-parts}
 use Rattle.run_replay.proofs.events.two_numbers.Goals as goal
 

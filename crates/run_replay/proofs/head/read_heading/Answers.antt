@@ -1,8 +1,8 @@
 use Rattle.std.proofs.Common.{◌++◌, sym, ap, ◌∙◌}
-use Rattle.document_parts.specs.Parts.{IsSource, source_part}
+use Rattle.text_pieces.specs.Parts.{IsSource, source_part}
 use Rattle.run_replay.specs.Document.{title, shape_line, IsTraceShape}
-use Rattle.document_parts.proofs.Fields.{if-none}
-use Rattle.document_parts.proofs.Forms.{source-one, next}
+use Rattle.text_pieces.proofs.Fields.{if-none}
+use Rattle.text_pieces.proofs.Forms.{source-one, next}
 use Rattle.run_replay.proofs.Forms.{head-parts, shape-one, count-from}
 use Rattle.run_replay.proofs.Found.{behind-title}
 use Rattle.run_replay.proofs.head.read_heading.Goals as goal

@@ -1,8 +1,8 @@
 use Rattle.std.proofs.Common.{◌++◌, codes, refl, sym, ap, ◌∙◌, arith}
 use Rattle.text_pieces.specs.Pieces.{space}
-use Rattle.document_parts.specs.Field.{field}
-use Rattle.document_parts.proofs.Fields.{if-none}
-use Rattle.document_parts.proofs.Forms.{field-next}
+use Rattle.text_pieces.specs.Field.{field}
+use Rattle.text_pieces.proofs.Fields.{if-none}
+use Rattle.text_pieces.proofs.Forms.{field-next}
 use Rattle.run_replay.proofs.Forms.{shape-parts}
 use Rattle.run_replay.proofs.head.shape.Goals as goal
 

@@ -1,7 +1,7 @@
 use Rattle.std.proofs.Common.{◌≡◌, ◌+◌, ◌-◌, length, ap, arith}
 use Rattle.region_table.specs.Program.{ProgramParts}
 use Rattle.state_text.specs.Parts.{home_line_at}
-use Rattle.event_reasons.proofs.Steps.{range-step}
+use Rattle.state_text.proofs.Steps.{range-step}
 use Rattle.state_text.proofs.homes.push_homes.Goals as goal
 
 pub loop-word-preserved : goal.loop-word-preserved

@@ -1,7 +1,7 @@
 use Rattle.std.proofs.Common.{◌+◌, ◌-◌, arith}
 use Rattle.std.specs.Prelude.{length}
 use Rattle.state_text.specs.Parts.{counted_line_of}
-use Rattle.event_reasons.proofs.Steps.{range-step}
+use Rattle.state_text.proofs.Steps.{range-step}
 use Rattle.state_text.proofs.keeper.push_counted.Goals as goal
 
 pub loop-core-preserved : goal.loop-core-preserved

@@ -1,7 +1,7 @@
 use Rattle.std.proofs.Common.{◌≡◌, ◌+◌, ◌-◌, length, ap, arith}
 use Rattle.region_table.specs.Program.{ProgramParts}
 use Rattle.state_text.specs.Parts.{lock_lines_at}
-use Rattle.event_reasons.proofs.Steps.{range-step}
+use Rattle.state_text.proofs.Steps.{range-step}
 use Rattle.state_text.proofs.locks.push_locks.Goals as goal
 
 pub loop-lock-preserved : goal.loop-lock-preserved

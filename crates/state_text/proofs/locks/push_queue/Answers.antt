@@ -1,6 +1,6 @@
 use Rattle.std.proofs.Common.{◌+◌, ◌-◌, length, arith}
 use Rattle.state_text.specs.Parts.{queued_line_at}
-use Rattle.event_reasons.proofs.Steps.{range-step}
+use Rattle.state_text.proofs.Steps.{range-step}
 use Rattle.state_text.proofs.locks.push_queue.Goals as goal
 
 pub loop-index-preserved : goal.loop-index-preserved

@@ -2,7 +2,7 @@ use Rattle.std.proofs.Common.{◌≡◌, slice_get, Some, sym, ap, ◌∙◌}
 use Rattle.message_net.specs.declared.message.Mail.{Mail}
 use Rattle.std.specs.Prelude.{List}
 use Rattle.state_text.specs.Parts.{mail_lines}
-use Rattle.event_reasons.proofs.Steps.{item-step}
+use Rattle.state_text.proofs.Steps.{item-step}
 use Rattle.state_text.proofs.mails.push_mails.Goals as goal
 
 pub loop-place-preserved : goal.loop-place-preserved

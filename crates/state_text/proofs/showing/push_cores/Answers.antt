@@ -1,5 +1,5 @@
 use Rattle.state_text.specs.Cores.{core_lines}
-use Rattle.event_reasons.proofs.Steps.{item-step}
+use Rattle.state_text.proofs.Steps.{item-step}
 use Rattle.state_text.proofs.showing.push_cores.Goals as goal
 
 pub loop-core-preserved : goal.loop-core-preserved

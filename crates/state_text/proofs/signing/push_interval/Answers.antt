@@ -1,6 +1,6 @@
 use Rattle.std.proofs.Common.{◌+◌, ◌-◌, arith}
 use Rattle.state_text.specs.Parts.{signed_line}
-use Rattle.event_reasons.proofs.Steps.{range-step}
+use Rattle.state_text.proofs.Steps.{range-step}
 use Rattle.state_text.proofs.signing.push_interval.Goals as goal
 
 pub loop-word-preserved : goal.loop-word-preserved

@@ -1,7 +1,7 @@
 use Rattle.std.proofs.Common.{◌+◌, ◌-◌, arith}
 use Rattle.std.specs.Prelude.{length}
 use Rattle.state_text.specs.Cores.{held_line}
-use Rattle.event_reasons.proofs.Steps.{range-step}
+use Rattle.state_text.proofs.Steps.{range-step}
 use Rattle.state_text.proofs.tasks.push_all_held.Goals as goal
 
 pub loop-lock-preserved : goal.loop-lock-preserved

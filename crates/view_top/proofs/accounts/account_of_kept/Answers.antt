@@ -4,7 +4,7 @@ use Rattle.region_table.specs.Program.{ProgramParts}
 use Rattle.message_net.specs.declared.event.Event.{Event}
 use Rattle.run_account.specs.Account.{Accounted}
 use Rattle.view_top.specs.Answers.{IsAccountOf}
-use Rattle.dn_top.specs.Documents.{shape_told}
+use Rattle.checked_runs.specs.Documents.{shape_told}
 use Rattle.view_top.proofs.Kept.{fit, run-of-kept, made-of-kept}
 use Rattle.view_top.proofs.accounts.account_of_kept.Goals as goal
 

@@ -1,4 +1,4 @@
-use Rattle.account_table.specs.declared.measure.Measure as measure
+use Rattle.run_account.specs.declared.measure.Measure as measure
 use Rattle.run_account.specs.Events.{item_at, has_untold_copy}
 use Rattle.run_account.specs.Account.{adding}
 use Rattle.std.proofs.Common.{replicate}

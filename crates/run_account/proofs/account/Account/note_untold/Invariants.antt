@@ -1,6 +1,6 @@
 use Rattle.std.proofs.Common.{◌≡◌, drop, replicate}
 use Rattle.std.specs.Prelude.{count_by}
-use Rattle.account_table.specs.declared.measure.Measure as measure
+use Rattle.run_account.specs.declared.measure.Measure as measure
 use Rattle.run_account.specs.Events.{item_at, has_untold_copy}
 use Rattle.run_account.specs.Account.{adding}
 use Rattle.run_account.proofs.account.Account.note_untold.Given as goal

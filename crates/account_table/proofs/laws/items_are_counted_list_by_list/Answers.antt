@@ -1,5 +1,0 @@
-use Rattle.account_table.proofs.Numbers.{with_items-append}
-use Rattle.account_table.proofs.laws.items_are_counted_list_by_list.Goals as goal
-
-pub returns : goal.returns
-returns c = with_items-append

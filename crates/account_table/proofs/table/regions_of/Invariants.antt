@@ -1,6 +1,0 @@
-use Rattle.std.proofs.Common.{◌≡◌, ◌++◌, drop}
-use Rattle.account_table.specs.Items.{regions_from}
-use Rattle.account_table.proofs.table.regions_of.Given as goal
-
-abbrev pub invariant-loop-region : goal.invariant-loop-region
-invariant-loop-region l = (l.number ≡ l.region-index) × (l.words ++ regions_from l.region-index (drop l.region-index l.regions) ≡ regions_from 0 l.regions)

@@ -1,3 +1,0 @@
-pub mod Measure
-pub mod Items
-pub mod Tallies

@@ -1,8 +1,0 @@
-use Rattle.std.proofs.Common.{◌≡◌, ◌-◌, ◌++◌, flat_map}
-use Rattle.std.specs.List.{range_with_len}
-use Rattle.account_text.specs.Forms.{tally_cell}
-use Rattle.account_text.proofs.table.push_numbers.Given as goal
-
-abbrev pub invariant-loop-group : goal.invariant-loop-group
-invariant-loop-group l =
-    l.out.items ++ flat_map (tally_cell l.table l.measure) (range_with_len l.group (l.groups - l.group)) ≡ l.fn.out.items ++ flat_map (tally_cell l.table l.measure) (range_with_len 0 l.groups)

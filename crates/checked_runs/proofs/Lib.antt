@@ -1,0 +1,3 @@
+pub mod Causes
+mod ReplayedRun
+pub mod RunOf

@@ -1,8 +1,0 @@
-use Rattle.claim_agreement.proofs.Agreeing.{run-verdict, run-said}
-use Rattle.claim_agreement.proofs.laws.the_claim_of_any_run_agrees.Goals as goal
-
-pub returns-clause-verdict : goal.returns-clause-verdict
-returns-clause-verdict c = run-verdict
-
-pub returns-clause-answer : goal.returns-clause-answer
-returns-clause-answer c = run-said

@@ -1,7 +1,0 @@
-use Rattle.std.proofs.Common.{◌≡◌, length}
-use Rattle.document_parts.specs.Parts.{StandAll}
-use Rattle.claim_document.specs.Claim.{IsGrant, grant_row}
-use Rattle.claim_document.proofs.rows.push_grants.Given as goal
-
-abbrev pub invariant-loop-number : goal.invariant-loop-number
-invariant-loop-number l = record { stand : StandAll IsGrant grant_row l.bytes l.grants l.rest; all : length l.grants ≡ l.number }

@@ -1,7 +1,0 @@
-use Rattle.std.proofs.Common.{◌≡◌, length}
-use Rattle.document_parts.specs.Parts.{StandAll}
-use Rattle.claim_document.specs.Claim.{IsLoad, load_row}
-use Rattle.claim_document.proofs.rows.push_loads.Given as goal
-
-abbrev pub invariant-loop-number : goal.invariant-loop-number
-invariant-loop-number l = record { stand : StandAll IsLoad load_row l.bytes l.loads l.rest; all : length l.loads ≡ l.number }

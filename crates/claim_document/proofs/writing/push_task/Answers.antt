@@ -1,9 +1,0 @@
-use Rattle.std.proofs.Common.{rules, ◌<◌, length, arith}
-use Rattle.claim_document.specs.Claim.{most_bytes, task_rows}
-use Rattle.claim_document.proofs.Sizes.{many-loads}
-use Rattle.claim_document.proofs.writing.push_task.Goals as goal
-
-pub returns-in_err-told-clause-large : goal.returns-in_err-told-clause-large
-returns-in_err-told-clause-large c =
-    let large : most_bytes < length (task_rows c.args.task.now) = many-loads c.args.task.now (omega (arith, c.in_err-told.ensures.large, c.len.ensures)) in
-    search rules

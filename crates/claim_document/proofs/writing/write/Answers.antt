@@ -1,9 +1,0 @@
-use Rattle.std.proofs.Common.{rules, ◌<◌, length, arith}
-use Rattle.claim_document.specs.Claim.{most_bytes, claim_text}
-use Rattle.claim_document.proofs.Sizes.{many-grants}
-use Rattle.claim_document.proofs.writing.write.Goals as goal
-
-pub returns-in_err-told-clause-large : goal.returns-in_err-told-clause-large
-returns-in_err-told-clause-large c =
-    let large : most_bytes < length (claim_text c.args.claim.now) = many-grants c.args.claim.now (omega (arith, c.in_err-told.ensures.large, c.len.ensures)) in
-    search rules

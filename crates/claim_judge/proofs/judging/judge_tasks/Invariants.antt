@@ -1,6 +1,0 @@
-use Rattle.std.proofs.Common.{◌≡◌, drop}
-use Rattle.claim_judge.specs.Judge.{tasks_verdict}
-use Rattle.claim_judge.proofs.judging.judge_tasks.Given as goal
-
-abbrev pub invariant-loop-task : goal.invariant-loop-task
-invariant-loop-task l = tasks_verdict l.claimed l.right ≡ tasks_verdict (drop l.task l.claimed) (drop l.task l.right)

@@ -1,5 +1,0 @@
-use Rattle.claim_judge.proofs.Verdicts.{agrees_run, run_agrees}
-use Rattle.claim_judge.proofs.laws.a_claim_agrees_where_its_run_does.Goals as goal
-
-pub returns : goal.returns
-returns c = λ P claim. (agrees_run P claim, run_agrees P claim)

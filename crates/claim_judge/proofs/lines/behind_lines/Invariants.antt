@@ -1,6 +1,0 @@
-use Rattle.std.proofs.Common.{◌≡◌}
-use Rattle.claim_judge.specs.Lines.{behind_lines}
-use Rattle.claim_judge.proofs.lines.behind_lines.Given as goal
-
-abbrev pub invariant-loop : goal.invariant-loop
-invariant-loop l = l.rest ≡ behind_lines l.counter l.text

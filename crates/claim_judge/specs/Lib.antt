@@ -1,4 +1,0 @@
-pub mod Differences
-pub mod Lines
-pub mod Judge
-pub mod Right

@@ -1,0 +1,12 @@
+pub mod Agreement
+pub mod Forms
+pub mod Found
+pub mod Fronts
+pub mod LoadRows
+pub mod Parts
+pub mod Places
+pub mod Single
+pub mod Sizes
+pub mod Taken
+pub mod Told
+pub mod Verdicts

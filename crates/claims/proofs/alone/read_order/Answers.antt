@@ -1,0 +1,18 @@
+use Rattle.std.proofs.Common.{◌≡◌}
+use Rattle.claims.specs.declared.claim.ClaimFault.TheVariants.{TooLarge as AreTooMany, Head as NoHead, Memory}
+use Rattle.claims.specs.Alone.{HasOrderFault}
+use Rattle.claims.proofs.Fronts.{order_reads, order_refuses}
+use Rattle.claims.proofs.Told.{told-exactly}
+use Rattle.claims.proofs.alone.read_order.Goals as goal
+
+pub returns-clause-read : goal.returns-clause-read
+returns-clause-read c = order_reads c.args.bytes.now c.order.result c.order.ensures.ok c.order.ensures.err
+
+pub returns-clause-refused : goal.returns-clause-refused
+returns-clause-refused c = order_refuses c.args.bytes.now c.order.result c.order.ensures.ok c.order.ensures.err
+
+pub returns-clause-large : goal.returns-clause-large
+returns-clause-large c = told-exactly (HasOrderFault c.args.bytes.now) c.order.result AreTooMany (λ (e : AreTooMany ≡ Memory). cc) c.order.ensures.err c.order.ensures.large
+
+pub returns-clause-head : goal.returns-clause-head
+returns-clause-head c = told-exactly (HasOrderFault c.args.bytes.now) c.order.result NoHead (λ (e : NoHead ≡ Memory). cc) c.order.ensures.err c.order.ensures.head

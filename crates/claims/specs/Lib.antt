@@ -1,0 +1,10 @@
+pub mod Alone
+pub mod Claim
+pub mod Differences
+pub mod Faults
+pub mod Judge
+pub mod Lines
+pub mod Refusal
+pub mod Right
+pub mod Rows
+pub mod Verdict

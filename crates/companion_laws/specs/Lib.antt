@@ -1,0 +1,4 @@
+pub mod Claims
+pub mod HandedBack
+pub mod Holding
+pub mod Taken

@@ -1,4 +1,0 @@
-pub mod Guards
-pub mod Claims
-pub mod TableClaims
-pub mod Sentences

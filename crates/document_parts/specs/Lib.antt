@@ -1,3 +1,0 @@
-pub mod Base16
-pub mod Field
-pub mod Parts

@@ -1,7 +1,0 @@
-use Rattle.std.proofs.Common.{◌≡◌, drop}
-use Rattle.ending_sentences.specs.Uses.{lock_from}
-use Rattle.ending_sentences.proofs.uses.lock_of.Given as goal
-
--- no set so far has the word
-abbrev pub invariant-loop-lock : goal.invariant-loop-lock
-invariant-loop-lock l = lock_from l.lock (drop l.lock l.sets) l.word ≡ lock_from 0 l.sets l.word

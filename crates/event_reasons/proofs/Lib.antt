@@ -1,4 +1,0 @@
-pub mod Exact
-pub mod Held
-pub mod Steps
-pub mod Listed

@@ -1,7 +1,0 @@
-use Rattle.std.proofs.Common.{◌≡◌, ◌++◌, drop, flat_map}
-use Rattle.event_reasons.specs.Coming.{enabled_eviction}
-use Rattle.event_reasons.proofs.coming.push_evictions.Given as goal
-
-abbrev pub invariant-loop-pair : goal.invariant-loop-pair
-invariant-loop-pair l =
-    l.events ++ flat_map (enabled_eviction l.machine.state l.node) (drop l.pair-index l.pairs) ≡ l.fn.events ++ flat_map (enabled_eviction l.machine.state l.node) l.pairs

@@ -1,5 +1,0 @@
-use Rattle.std.proofs.Common.{sym}
-use Rattle.event_reasons.proofs.standing.need.Goals as goal
-
-pub returns : goal.returns
-returns c = c.needs.ensures c.args.machine.now.state.setting (sym c.program.ensures) (sym c.fuel.ensures)

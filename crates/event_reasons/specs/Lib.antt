@@ -1,3 +1,0 @@
-pub mod Reasons
-pub mod Holding
-pub mod Coming

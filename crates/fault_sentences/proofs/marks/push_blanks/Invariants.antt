@@ -1,7 +1,0 @@
-use Rattle.std.proofs.Common.{◌≡◌, ◌++◌, map, take}
-use Rattle.fault_sentences.specs.Marks.{blank_under}
-use Rattle.fault_sentences.proofs.marks.push_blanks.Given as goal
-
--- a blank for each byte so far
-abbrev pub invariant-loop-byte : goal.invariant-loop-byte
-invariant-loop-byte l = l.out.items ≡ l.initial.out.items ++ map blank_under (take l.byte-index l.bytes)

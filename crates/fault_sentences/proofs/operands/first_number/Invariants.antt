@@ -1,8 +1,0 @@
-use Rattle.std.proofs.Common.{◌≡◌, drop}
-use Rattle.std.specs.List.{find}
-use Rattle.fault_sentences.specs.Findings.{is_number_token}
-use Rattle.fault_sentences.proofs.operands.first_number.Given as goal
-
--- none so far is a number
-abbrev pub invariant-loop-token : goal.invariant-loop-token
-invariant-loop-token l = find is_number_token (drop l.token-index l.tokens) ≡ find is_number_token l.tokens

@@ -1,8 +1,0 @@
-use Rattle.flat_agreement.proofs.CoreByCore.{agreed-ends, none-ends}
-use Rattle.flat_agreement.proofs.laws.a_phase_that_stops_has_the_end_of_the_run.Goals as goal
-
-pub returns-clause-stops : goal.returns-clause-stops
-returns-clause-stops c = agreed-ends
-
-pub returns-clause-none : goal.returns-clause-none
-returns-clause-none c = none-ends

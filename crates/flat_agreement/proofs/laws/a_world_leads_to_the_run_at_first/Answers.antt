@@ -1,5 +1,0 @@
-use Rattle.flat_agreement.proofs.Beginning.{run-opens}
-use Rattle.flat_agreement.proofs.laws.a_world_leads_to_the_run_at_first.Goals as goal
-
-pub returns : goal.returns
-returns c = run-opens

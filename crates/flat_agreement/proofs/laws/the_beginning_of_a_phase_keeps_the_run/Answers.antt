@@ -1,5 +1,0 @@
-use Rattle.flat_agreement.proofs.Beginning.{run-begin}
-use Rattle.flat_agreement.proofs.laws.the_beginning_of_a_phase_keeps_the_run.Goals as goal
-
-pub returns : goal.returns
-returns c = run-begin

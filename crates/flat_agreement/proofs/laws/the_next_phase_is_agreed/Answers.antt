@@ -1,5 +1,0 @@
-use Rattle.flat_agreement.proofs.CoreByCore.{agreed-begin}
-use Rattle.flat_agreement.proofs.laws.the_next_phase_is_agreed.Goals as goal
-
-pub returns : goal.returns
-returns c = agreed-begin

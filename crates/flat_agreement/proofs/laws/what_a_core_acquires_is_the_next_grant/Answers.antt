@@ -1,5 +1,0 @@
-use Rattle.flat_agreement.proofs.CoreByCore.{agreed-grant}
-use Rattle.flat_agreement.proofs.laws.what_a_core_acquires_is_the_next_grant.Goals as goal
-
-pub returns : goal.returns
-returns c = agreed-grant

@@ -1,5 +1,0 @@
-use Rattle.flat_agreement.proofs.CoreByCore.{agreed-same}
-use Rattle.flat_agreement.proofs.laws.what_changes_no_task_keeps_the_run.Goals as goal
-
-pub returns : goal.returns
-returns c = agreed-same

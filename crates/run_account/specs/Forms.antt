@@ -1,0 +1,73 @@
+-- An account as it is printed: as a table with a row for each measure and a column for each group, or as csv lines for other
+-- programs.
+use Rattle.std.specs.Prelude.{ℕ, ◌-◌, List, [], ◌++◌, length, replicate, codes, flat_map, if◌then◌else◌, Bool, true, nat_lt}
+use Rattle.std.specs.List.{range_with_len}
+use Rattle.std.specs.Fmt.{decimal}
+use Rattle.text_pieces.specs.Pieces.{newline, space}
+use Rattle.region_table.specs.Program.{ProgramParts}
+use Rattle.run_account.specs.declared.item.Grouping.{Grouping}
+use Rattle.run_account.specs.declared.item.Grouping.TheVariants as by
+use Rattle.run_account.specs.declared.measure.Measure.{Measure}
+use Rattle.run_account.specs.Tallies.{Tallies, tally_of}
+use Rattle.run_account.specs.declared.form.Form.{Form}
+use Rattle.run_account.specs.declared.form.Form as form
+use Rattle.run_account.specs.Names.{measure_word, all_measures, grouping_word, group_name}
+
+-- ---- the table
+
+-- a text at the left end of 22 columns
+unfoldable pub left_cell : List ℕ → List ℕ
+left_cell text = text ++ replicate (22 - length text) 32
+
+-- a text at the right end of 11 columns, after a space
+unfoldable pub right_cell : List ℕ → List ℕ
+right_cell text = space ++ replicate (11 - length text) 32 ++ text
+
+abbrev pub name_cell : ProgramParts → Grouping → ℕ → List ℕ
+name_cell P grouping group = right_cell (group_name P grouping group)
+
+abbrev pub tally_cell : Tallies → Measure → ℕ → List ℕ
+tally_cell t m group = right_cell (decimal (tally_of m group t))
+
+-- what the groups are, and the name of each
+unfoldable pub names_row : ProgramParts → Tallies → List ℕ
+names_row P t = left_cell (grouping_word t.by) ++ flat_map (name_cell P t.by) (range_with_len 0 (length t.numbers)) ++ newline
+
+-- the word of a measure, and its number in each group
+unfoldable pub tallies_row : Tallies → Measure → List ℕ
+tallies_row t m = left_cell (measure_word m) ++ flat_map (tally_cell t m) (range_with_len 0 (length t.numbers)) ++ newline
+
+unfoldable pub table_text : ProgramParts → Tallies → List ℕ
+table_text P t = names_row P t ++ flat_map (tallies_row t) all_measures
+
+-- ---- the lines
+
+unfoldable pub csv_head : List ℕ
+csv_head = codes "measure,group,count" ++ newline
+
+unfoldable pub csv_fields : List ℕ → List ℕ → ℕ → List ℕ
+csv_fields measure group count = measure ++ codes "," ++ group ++ codes "," ++ decimal count ++ newline
+
+-- by region a measure without items has no line
+abbrev pub has_csv_line : Grouping → ℕ → Bool
+has_csv_line by.Run count = true
+has_csv_line by.Phase count = true
+has_csv_line by.Core count = true
+has_csv_line by.Region count = nat_lt 0 count
+
+abbrev pub csv_line : ProgramParts → Tallies → Measure → ℕ → List ℕ
+csv_line P t m group =
+    if has_csv_line t.by (tally_of m group t) then csv_fields (measure_word m) (group_name P t.by group) (tally_of m group t) else []
+
+-- the lines of a measure, group by group
+abbrev pub csv_lines : ProgramParts → Tallies → Measure → List ℕ
+csv_lines P t m = flat_map (csv_line P t m) (range_with_len 0 (length t.numbers))
+
+unfoldable pub csv_text : ProgramParts → Tallies → List ℕ
+csv_text P t = csv_head ++ flat_map (csv_lines P t) all_measures
+
+-- ---- both
+
+abbrev pub account_text : Form → ProgramParts → Tallies → List ℕ
+account_text form.TheVariants.Text P t = table_text P t
+account_text form.TheVariants.Csv P t = csv_text P t

@@ -1,0 +1,70 @@
+ghost use Rattle.std.specs.Prelude.{◌≡◌, ◌<◌};
+ghost use Rattle.run_account.specs.Measure.{measure_index};
+
+/// What an account counts, in the order in which it is printed. A copy is a Valid entry.
+#[derive(Clone, Copy)]
+pub enum Measure {
+    /// Loads that retire.
+    Loads,
+    /// Stores that retire.
+    Stores,
+    /// Loads that retire while the core waits for nothing, so that no message was needed.
+    LoadsLocal,
+    /// Stores that retire at a registered entry, so that no message was sent.
+    StoresSilent,
+    /// Stores that send RegReq.
+    Registers,
+    /// Instructions that send ReadReq.
+    Misses,
+    /// Misses of a word of which the core had no entry before.
+    MissesFirst,
+    /// Misses of a word whose last entry was dropped at a Go.
+    MissesPhase,
+    /// Misses of a word whose last entry was dropped at a Grant.
+    MissesLock,
+    /// Misses of a word whose last entry was evicted.
+    MissesEvicted,
+    /// Misses of a word whose last entry was removed by a RegFwd.
+    MissesTaken,
+    /// Copies that are dropped at a Go.
+    DroppedPhase,
+    /// Copies that are dropped at a Grant.
+    DroppedLock,
+    /// Copies that are dropped at a Go although they have the word's value: needlessly.
+    DroppedPhaseCurrent,
+    /// Copies that are dropped at a Grant although they have the word's value: needlessly.
+    DroppedLockCurrent,
+    /// Copies of words that the phase may have written which stay at a Go because they are marked.
+    KeptTouched,
+    /// Copies of words that the lock guards which stay at a Grant because the signature doesn't hold them.
+    KeptSignature,
+    /// Copies of a word that other cores have when a store registers the word. A directory protocol would have to tell these
+    /// cores.
+    UntoldCopies,
+    /// Entries that are removed by a RegFwd.
+    Taken,
+    /// DataReply mails that a bank sent.
+    RepliesHome,
+    /// DataReply mails that a core sent.
+    RepliesCore,
+    /// ReadFwd mails that a core sends back.
+    Bounces,
+    /// Evictions of a copy.
+    EvictedCopies,
+    /// Evictions of a registered word.
+    EvictedRegistered,
+    /// Grants of a lock that was free.
+    GrantsAtOnce,
+    /// Grants of a lock that was handed on to the next core of its queue.
+    GrantsQueued,
+}
+
+impl Measure {
+    /// The index of the measure among the twenty-six.
+    pub fn index(self) -> usize
+        ensures value { result ≡ measure_index self }
+        ensures within { result < 26 }
+    {
+        self as usize
+    }
+}

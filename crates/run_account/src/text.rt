@@ -1,0 +1,30 @@
+ghost use Rattle.std.specs.Prelude.{◌≡◌, ◌++◌, OnOk};
+ghost use Rattle.run_account.specs.Forms.{account_text};
+
+use crate::AccountTable;
+use crate::columns::push_table;
+use crate::csv::push_csv;
+use crate::form::Form;
+use dn_base::Memory;
+use region_table::Program;
+
+/// Appends an account in one of its forms: the numbers of a table, whose groups are those of this program.
+///
+/// The table has a row with the names of the groups, and then a row for each measure, in order. The csv lines have the measure,
+/// the group and the count, after a head line; by region, a measure without items has no line there.
+///
+/// # Errors
+/// `Memory` where there is no room for the text.
+pub fn push_account(
+    out: &mut Vec<u8>,
+    form: Form,
+    program: &Program,
+    table: &AccountTable,
+) -> Result<(), Memory>
+    ensures { OnOk result (out.new.items ≡ out.old.items ++ account_text form program.now table.now) }
+{
+    match form {
+        Form::Text => push_table(out, program, table),
+        Form::Csv => push_csv(out, program, table),
+    }
+}

@@ -1,0 +1,183 @@
+-- The sentences on a task that didn't finish: where it stands in the text, why, and how to mend it. Each line is indented,
+-- which tells it from the lines of an answer.
+use Rattle.std.specs.Prelude.{ℕ, ◌-◌, ◌/◌, ◌%◌, ◌==◌, ◌&&◌, nat_le, List, [], ◌++◌, Option, Some, None, codes, slice_get, find, if◌then◌else◌}
+use Rattle.std.specs.Fmt.{decimal}
+use Rattle.text_pieces.specs.Pieces.{newline, hexadecimal}
+use Rattle.region_table.specs.Program.{ProgramParts}
+use Rattle.rv_core.specs.declared.task.TrapKind as kind
+use Rattle.rv_core.specs.declared.task.TrapKind.{TrapKind}
+use Rattle.rv_core.specs.declared.ending.EndShown as shown
+use Rattle.rv_core.specs.declared.ending.EndShown.{EndShown}
+use Rattle.rv_core.specs.declared.ending.TaskEnd.{TaskEnd}
+use Rattle.text_places.specs.declared.places.CodePlace.{CodePlace}
+use Rattle.text_places.specs.declared.places.TaskPlace.{TaskPlace}
+use Rattle.text_places.specs.declared.places.Located.{Located}
+use Rattle.text_places.specs.declared.places.Places.{Places}
+use Rattle.text_places.specs.Words.{is_task_of}
+use Rattle.text_places.specs.Texts.{address_text, code_text, lock_text, quoted_line}
+use Rattle.sentences.specs.declared.uses.WordUse.{WordUse}
+use Rattle.sentences.specs.declared.uses.WordUse as word_use
+use Rattle.sentences.specs.Uses.{task_use}
+
+-- how a line of a sentence begins
+abbrev pub indent : List ℕ
+indent = codes "  "
+
+unfoldable pub which_line : List ℕ
+which_line = codes ", which line "
+
+unfoldable pub declares_word : List ℕ
+declares_word = codes " declares,"
+
+-- the line that declares a task
+unfoldable pub declared_by_line : TaskPlace → List ℕ
+declared_by_line p = which_line ++ decimal p.line ++ declares_word
+
+abbrev pub declared_text : Option TaskPlace → List ℕ
+declared_text (Some p) = declared_by_line p
+declared_text None = []
+
+unfoldable pub the_task : List ℕ
+the_task = codes "  The task of core "
+
+-- a task by its core and phase, and the line that declares it
+unfoldable pub task_text : Places → ℕ → ℕ → List ℕ
+task_text places phase core =
+    the_task ++ decimal core ++ codes " in phase " ++ decimal phase ++ declared_text (find (is_task_of phase core) places.tasks)
+
+-- the code word at an address, if there is one
+abbrev pub code_place_at : Places → ℕ → Option CodePlace
+code_place_at places pc = if nat_le 0x1000 pc && pc % 4 == 0 then slice_get places.code ((pc - 0x1000) / 4) else None
+
+-- where a task ended: the line of the code word, and its bytes
+unfoldable pub stands_at : List ℕ → CodePlace → List ℕ
+stands_at text p = codes " ended at " ++ code_text p ++ codes ":" ++ newline ++ indent ++ quoted_line text p.line
+
+abbrev pub line_at : List ℕ → Option CodePlace → List ℕ
+line_at text (Some p) = stands_at text p
+line_at text None = codes " ended where there is no code." ++ newline
+
+-- what is wrong, with the value of the trap in the middle, and how to mend it
+abbrev pub said_before : TrapKind → List ℕ
+said_before kind.TheVariants.Fetch = codes "There is no code word at the address "
+said_before kind.TheVariants.Illegal = codes "The code word "
+said_before kind.TheVariants.Target = codes "A jump to the address "
+said_before kind.TheVariants.Misaligned = codes "A load or store at the address "
+said_before kind.TheVariants.Outside = codes "A load or store at the address "
+said_before kind.TheVariants.Break = codes "An `ebreak`"
+said_before kind.TheVariants.Call = codes "An `ecall` with "
+said_before kind.TheVariants.NoLock = codes "An `ecall` that asks for lock "
+said_before kind.TheVariants.Held = codes "The task acquires "
+said_before kind.TheVariants.NotHeld = codes "The task releases "
+said_before kind.TheVariants.HeldEnd = codes "The task ends while it holds "
+
+abbrev pub said_behind : TrapKind → List ℕ
+said_behind kind.TheVariants.Fetch = codes ": the task ran on behind its last instruction, or jumped out of the code."
+said_behind kind.TheVariants.Illegal = codes " is no instruction."
+said_behind kind.TheVariants.Target = codes ", which isn't a multiple of 4, as addresses of instructions are."
+said_behind kind.TheVariants.Misaligned = codes ", which isn't a multiple of the width."
+said_behind kind.TheVariants.Outside = codes ", which this task may not use so with the locks that it holds."
+said_behind kind.TheVariants.Break = codes " ends its task by a trap."
+said_behind kind.TheVariants.Call = codes " in a7."
+said_behind kind.TheVariants.NoLock = codes ", which the text doesn't declare."
+said_behind kind.TheVariants.Held = codes ", which it holds already."
+said_behind kind.TheVariants.NotHeld = codes ", which it doesn't hold."
+said_behind kind.TheVariants.HeldEnd = codes "."
+
+abbrev pub remedy : TrapKind → List ℕ
+remedy kind.TheVariants.Fetch = codes "End the task by `li a7, 0` and `ecall`."
+remedy kind.TheVariants.Illegal = codes "Only `.raw` makes such a word: write the instruction by its name."
+remedy kind.TheVariants.Target = codes "Jump to a label."
+remedy kind.TheVariants.Misaligned = codes "`lw` and `sw` need a multiple of 4, and `lh`, `lhu` and `sh` an even address."
+remedy kind.TheVariants.Outside = codes "Declare the word behind the task's line by `.reads` or `.writes`, acquire the lock that guards it, or mend the address."
+remedy kind.TheVariants.Break = codes "Leave it out, or end the task by `li a7, 0` and `ecall`."
+remedy kind.TheVariants.Call = codes "0 ends the task, 1 acquires the lock whose number is in a0, and 2 releases it."
+remedy kind.TheVariants.NoLock = codes "Locks are numbered from 0 in the order of their `.lock` lines; the number is in a0."
+remedy kind.TheVariants.Held = codes "Release it first, or leave this acquire out."
+remedy kind.TheVariants.NotHeld = codes "Acquire it first, or leave this release out."
+remedy kind.TheVariants.HeldEnd = codes "Release it first, by `li a7, 2` and `ecall` with its number in a0."
+
+-- an address, and the word that it is in
+unfoldable pub data_text : ProgramParts → ℕ → List ℕ
+data_text p value = hexadecimal value ++ codes " (" ++ address_text p.regions value ++ codes ")"
+
+-- the value of a trap, by its meaning
+abbrev pub value_text : ProgramParts → TrapKind → ℕ → List ℕ
+value_text p kind.TheVariants.Fetch value = hexadecimal value
+value_text p kind.TheVariants.Illegal value = hexadecimal value
+value_text p kind.TheVariants.Target value = hexadecimal value
+value_text p kind.TheVariants.Misaligned value = data_text p value
+value_text p kind.TheVariants.Outside value = data_text p value
+value_text p kind.TheVariants.Break value = []
+value_text p kind.TheVariants.Call value = decimal value
+value_text p kind.TheVariants.NoLock value = decimal value
+value_text p kind.TheVariants.Held value = lock_text p.locks value
+value_text p kind.TheVariants.NotHeld value = lock_text p.locks value
+value_text p kind.TheVariants.HeldEnd value = lock_text p.locks value
+
+-- why a task trapped
+unfoldable pub trap_text : ProgramParts → TrapKind → ℕ → List ℕ
+trap_text p k value = indent ++ said_before k ++ value_text p k value ++ said_behind k ++ newline
+
+unfoldable pub held_alone : List ℕ
+held_alone = codes ": it may use it only while it holds this lock." ++ newline
+
+unfoldable pub declared_under : List ℕ
+declared_under = codes "  It declares the word under "
+
+unfoldable pub guarded_text : ProgramParts → ℕ → List ℕ
+guarded_text p lock = declared_under ++ lock_text p.locks lock ++ held_alone
+
+-- what a task declares of a word
+unfoldable pub use_text : ProgramParts → WordUse → List ℕ
+use_text p word_use.TheVariants.Writes = codes "  It declares the word in `.writes`." ++ newline
+use_text p word_use.TheVariants.Reads = codes "  It declares the word in `.reads`: it may load it, and not store to it." ++ newline
+use_text p (word_use.TheVariants.Guarded lock) = guarded_text p lock
+use_text p word_use.TheVariants.Undeclared = codes "  None of its effects has the word." ++ newline
+
+-- what the task declares of the word that it may not use in that way
+abbrev pub declares_text : ProgramParts → TrapKind → Option WordUse → List ℕ
+declares_text p kind.TheVariants.Outside (Some u) = use_text p u
+declares_text p _ _ = []
+
+-- what to do
+unfoldable pub remedy_text : TrapKind → List ℕ
+remedy_text k = indent ++ remedy k ++ newline
+
+unfoldable pub fuel_text : List ℕ
+fuel_text =
+    codes " has retired as many instructions as it may, and hasn't ended." ++ newline
+    ++ indent ++ codes "See whether its loop ends. If it only takes long, the option `--fuel` gives it more." ++ newline
+
+unfoldable pub not_given_up : List ℕ
+not_given_up = codes ", which isn't given up." ++ newline
+
+unfoldable pub holds_it : List ℕ
+holds_it = codes " holds this lock." ++ newline
+
+unfoldable pub holder_untold : List ℕ
+holder_untold = codes "  The grants in this answer don't tell which task holds the lock." ++ newline
+
+-- which task of the phase holds a lock, if its core is known
+abbrev pub holder_text : Places → ℕ → Option ℕ → List ℕ
+holder_text places phase (Some core) = task_text places phase core ++ holds_it
+holder_text places phase None = holder_untold
+
+unfoldable pub wait_remedy : List ℕ
+wait_remedy = indent ++ codes "Have each task release what it acquires, and all tasks acquire their locks in one order." ++ newline
+
+unfoldable pub wait_text : ProgramParts → ℕ → List ℕ
+wait_text p lock = codes " waits for " ++ lock_text p.locks lock ++ not_given_up
+
+-- the sentences on how a task stands; `holder` is the core whose task holds the lock that it waits for, if that is known
+abbrev pub end_sentences : List ℕ → Located → Option ℕ → ℕ → ℕ → EndShown → List ℕ
+end_sentences text l holder phase core shown.TheVariants.Finished = []
+end_sentences text l holder phase core shown.TheVariants.Fuel = task_text l.places phase core ++ fuel_text
+end_sentences text l holder phase core (shown.TheVariants.Trap k pc value) =
+    task_text l.places phase core ++ line_at text (code_place_at l.places pc) ++ trap_text l.program k value
+    ++ declares_text l.program k (task_use l.program phase core value) ++ remedy_text k
+end_sentences text l holder phase core (shown.TheVariants.Waits lock) =
+    task_text l.places phase core ++ wait_text l.program lock.0 ++ holder_text l.places phase holder ++ wait_remedy
+
+abbrev pub ending_text : List ℕ → Located → Option ℕ → TaskEnd → List ℕ
+ending_text text l holder t = end_sentences text l holder t.phase.0 t.core.0 t.end

@@ -1,0 +1,14 @@
+pub mod Claims
+pub mod Conflicts
+pub mod Endings
+pub mod Examples
+pub mod Faults
+pub mod Findings
+pub mod Guards
+pub mod Known
+pub mod Lexemes
+pub mod Marks
+pub mod Others
+pub mod Standing
+pub mod TableClaims
+pub mod Uses

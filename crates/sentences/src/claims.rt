@@ -1,0 +1,262 @@
+//! Which lines of a text have effects that give a data word to one of the two tasks that conflict on it.
+ghost use Rattle.std.specs.Prelude.{◌≡◌, ◌≤◌, ◌++◌, length, map, slice_get, bytes_eq, pos, neg_ℤ, ◌+ℤ◌, ◌*ℤ◌, ◌≤ℤ◌, ◌<ℤ◌, IfOk, OnOk};
+ghost use Rattle.rv_assembler.specs.Number.{is_within};
+ghost use Rattle.rv_assembler.specs.Operand.{bytes_of};
+ghost use Rattle.rv_assembler.specs.Reading.{reading_of};
+ghost use Rattle.sentences.specs.Claims.{moved_has, extent_has, gives_to, names_region, effect_claims, statement_claims, line_if, claim_on, family_by, family_behind, claims_behind, claims_of, claims_in, contention_at};
+
+use dn_base::{MOST_OF_TEXT, Memory, Sequence};
+use region_table::{Program, Region};
+use rv_assembler::{Effect, Extent, Reading, Statement, read_line, version_line};
+use src_text::{Line, Token, tokens};
+use std::alloc::Global;
+use text_places::{TaskPlace, WordPlace, region_of_word};
+
+/// Two tasks, and the word on which they conflict.
+#[derive(Clone, Copy)]
+pub(crate) struct Contention {
+    pub(crate) place: WordPlace,
+    pub(crate) first: Option<TaskPlace>,
+    pub(crate) second: Option<TaskPlace>,
+}
+
+/// The contention for a data word of a program, if a region has it.
+pub(crate) fn contention_at(
+    program: &Program,
+    word: u32,
+    first: Option<TaskPlace>,
+    second: Option<TaskPlace>,
+) -> Option<Contention>
+    ensures { result ≡ contention_at program.now.regions word first second }
+{
+    match region_of_word(program, word) {
+        Some(place) => Some(Contention {
+            place,
+            first,
+            second,
+        }),
+        None => None,
+    }
+}
+
+/// By how much the interval of an effect is moved for the family's task of this number.
+fn moved_for(part: u32, step: i64) -> i128
+    ensures { result ≡ pos part *ℤ step }
+{
+    i128::from(part) * i128::from(step)
+}
+
+fn is_within(low: i128, below: i128, number: i128) -> bool
+    ensures { result ≡ is_within low below number }
+{
+    low <= number && number < below
+}
+
+/// Whether an index is in an interval.
+fn interval_has(lo: i64, hi: i64, index: u32) -> bool
+    ensures { result ≡ is_within lo hi (pos index) }
+{
+    lo <= i64::from(index) && i64::from(index) < hi
+}
+
+fn moved_to(bound: i64, moved: i128) -> i128
+    requires low { neg_ℤ (pos 65536) ≤ℤ moved }
+    requires high { moved <ℤ pos 65537 }
+    ensures { result ≡ bound +ℤ moved }
+{
+    i128::from(bound) + moved
+}
+
+fn is_between(low: i128, below: i128, index: u32) -> bool
+    ensures { result ≡ is_within low below (pos index) }
+{
+    is_within(low, below, i128::from(index))
+}
+
+/// Whether an index is in an interval that is moved on by so much.
+fn moved_has(lo: i64, hi: i64, moved: i128, index: u32) -> bool
+    ensures { result ≡ moved_has lo hi moved index }
+{
+    if -65536 <= moved && moved < 65537 {
+        is_between(moved_to(lo, moved), moved_to(hi, moved), index)
+    } else {
+        false
+    }
+}
+
+/// Whether an effect gives the word of this index in its region to the family's task of this number.
+fn extent_has(extent: Extent, part: u32, index: u32) -> bool
+    ensures { result ≡ extent_has extent part index }
+{
+    match extent {
+        Extent::Whole => true,
+        Extent::Part { lo, hi } => interval_has(lo, hi, index),
+        Extent::Stepped { lo, hi, step } => moved_has(lo, hi, moved_for(part, step), index),
+    }
+}
+
+/// Whether an effect of the family that stands on this line gives the word of this index to the task.
+fn gives_to(family: u32, extent: Extent, index: u32, task: Option<TaskPlace>) -> bool
+    ensures { result ≡ gives_to family extent index task }
+{
+    match task {
+        Some(task) => task.line == family && extent_has(extent, task.part, index),
+        None => false,
+    }
+}
+
+/// The bytes of a token.
+fn token_bytes(text: &[u8], token: Token) -> &[u8]
+    ensures { result.now ≡ bytes_of text.now token }
+{
+    let (start, end) = (token.start as usize, token.end as usize);
+    if start <= end && end <= text.len() {
+        &text[start..end]
+    } else {
+        &text[..0]
+    }
+}
+
+fn is_spelled(text: &[u8], token: Token, name: &[u8]) -> bool
+    ensures { result ≡ bytes_eq (bytes_of text.now token) name.now }
+{
+    token_bytes(text, token) == name
+}
+
+/// Whether a token is the name of the region of this number.
+fn names_region(text: &[u8], token: Token, regions: &[Region], number: usize) -> bool
+    ensures { result ≡ names_region text.now token (slice_get regions.now number) }
+{
+    match regions.get(number) {
+        Some(region) => is_spelled(text, token, region.name.bytes()),
+        None => false,
+    }
+}
+
+fn effect_claims(
+    text: &[u8],
+    regions: &[Region],
+    contention: Contention,
+    family: u32,
+    effect: Effect,
+) -> bool
+    ensures { result ≡ effect_claims text.now regions.now contention family effect }
+{
+    let index = contention.place.index;
+    names_region(text, effect.region, regions, contention.place.region)
+        && (gives_to(family, effect.extent, index, contention.first)
+            || gives_to(family, effect.extent, index, contention.second))
+}
+
+/// Whether a statement, where the current family is that of the line `family`, gives one of the tasks the word.
+fn statement_claims(
+    text: &[u8],
+    regions: &[Region],
+    contention: Contention,
+    family: u32,
+    statement: &Statement,
+) -> bool
+    ensures { result ≡ statement_claims text.now regions.now contention family statement.now }
+{
+    match *statement {
+        Statement::Uses(effect) => effect_claims(text, regions, contention, family, effect),
+        _ => false,
+    }
+}
+
+fn push_if(lines: &mut Sequence<u32>, claims: bool, line: u32) -> Result<(), Memory>
+    ensures { OnOk result (lines.new ≡ lines.old ++ line_if claims line) }
+{
+    if claims { lines.push(line) } else { Ok(()) }
+}
+
+/// Adds the line, if it claims the word.
+fn push_claim(
+    lines: &mut Sequence<u32>,
+    text: &[u8],
+    regions: &[Region],
+    contention: Contention,
+    family: u32,
+    reading: &Reading,
+) -> Result<(), Memory>
+    ensures { OnOk result (lines.new ≡ lines.old ++ claim_on text.now regions.now contention family reading.now) }
+{
+    match reading {
+        Reading::Bad(_) => Ok(()),
+        Reading::Good(saying) => {
+            let claims = statement_claims(text, regions, contention, family, &saying.statement);
+            push_if(lines, claims, saying.line)
+        }
+    }
+}
+
+fn family_by(family: u32, line: u32, statement: &Statement) -> u32
+    ensures { result ≡ family_by family line statement.now }
+{
+    match *statement {
+        Statement::Phase => 0,
+        Statement::Tasks(_) => line,
+        _ => family,
+    }
+}
+
+/// The line of the current family after one more line; 0 if there is none.
+fn family_behind(family: u32, reading: &Reading) -> u32
+    ensures { result ≡ family_behind family reading.now }
+{
+    match reading {
+        Reading::Bad(_) => family,
+        Reading::Good(saying) => family_by(family, saying.line, &saying.statement),
+    }
+}
+
+fn claims_among(
+    alloc: Global,
+    text: &[u8],
+    version: u32,
+    lines: &[Line],
+    regions: &[Region],
+    contention: Contention,
+) -> Result<Sequence<u32>, Memory>
+    ensures { IfOk result (λ claims. claims ≡ claims_behind text.now regions.now contention 0 (map (reading_of version text.now) lines.now)) }
+{
+    let mut claims = Sequence::new(alloc);
+    let mut family = 0;
+    for line in lines {
+        let reading = read_line(version, text, line);
+        push_claim(&mut claims, text, regions, contention, family, &reading)?;
+        family = family_behind(family, &reading);
+    }
+    Ok(claims)
+}
+
+#[tactic(auto, unfolding(crate::specs::Claims::claims_of))]
+fn claims_of(
+    alloc: Global,
+    text: &[u8],
+    regions: &[Region],
+    contention: Contention,
+) -> Result<Sequence<u32>, Memory>
+    requires { length text.now ≤ 1048576 }
+    ensures { IfOk result (λ claims. claims ≡ claims_of text.now regions.now contention) }
+{
+    let tokenized = tokens(alloc, text)?;
+    let lines = tokenized.as_slice();
+    let version = version_line(text, lines);
+    claims_among(alloc, text, version, lines, regions, contention)
+}
+
+/// The lines of a text whose effects give one of the tasks the word.
+pub(crate) fn claims_in(
+    alloc: Global,
+    text: &[u8],
+    regions: &[Region],
+    contention: Contention,
+) -> Result<Sequence<u32>, Memory>
+    ensures { IfOk result (λ claims. claims ≡ claims_in text.now regions.now contention) }
+{
+    if MOST_OF_TEXT < text.len() {
+        return Ok(Sequence::new(alloc));
+    }
+    claims_of(alloc, text, regions, contention)
+}

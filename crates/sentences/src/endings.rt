@@ -1,0 +1,213 @@
+//! Sentences on how a task stands at the end of a run.
+ghost use Rattle.std.specs.Prelude.{◌≡◌, ◌++◌, OnOk};
+ghost use Rattle.sentences.specs.Endings.{which_line, declares_word, the_task, declared_by_line, declared_text, task_text, code_place_at, stands_at, line_at, fuel_text, not_given_up, holds_it, holder_untold, holder_text, wait_remedy, wait_text, ending_text};
+
+use crate::traps::{push_declares, push_remedy, push_trap};
+use crate::uses::task_use;
+use dn_base::Memory;
+use region_table::Program;
+use rv_core::{EndShown, TaskEnd};
+use text_pieces::{push, push_decimal};
+use text_places::{
+    CodePlace, Located, Places, TaskPlace, push_code_place, push_lock, push_quoted_line,
+};
+
+/// The address of code word 0.
+const FIRST_CODE_ADDRESS: u32 = 0x1000;
+
+#[tactic(auto, unfolding(crate::specs::Endings::which_line))]
+fn push_which_line(out: &mut Vec<u8>) -> Result<(), Memory>
+    ensures { OnOk result (out.new.items ≡ out.old.items ++ which_line) }
+{
+    push(out, b", which line ")
+}
+
+#[tactic(auto, unfolding(crate::specs::Endings::declares_word))]
+fn push_declares_word(out: &mut Vec<u8>) -> Result<(), Memory>
+    ensures { OnOk result (out.new.items ≡ out.old.items ++ declares_word) }
+{
+    push(out, b" declares,")
+}
+
+#[tactic(auto, unfolding(crate::specs::Endings::declared_by_line))]
+fn push_declared_by_line(out: &mut Vec<u8>, place: TaskPlace) -> Result<(), Memory>
+    ensures { OnOk result (out.new.items ≡ out.old.items ++ declared_by_line place) }
+{
+    push_which_line(out)?;
+    push_decimal(out, place.line)?;
+    push_declares_word(out)
+}
+
+/// Adds the line that declares a task.
+fn push_declared(out: &mut Vec<u8>, place: Option<TaskPlace>) -> Result<(), Memory>
+    ensures { OnOk result (out.new.items ≡ out.old.items ++ declared_text place) }
+{
+    match place {
+        Some(place) => push_declared_by_line(out, place),
+        None => Ok(()),
+    }
+}
+
+#[tactic(auto, unfolding(crate::specs::Endings::the_task))]
+fn push_the_task(out: &mut Vec<u8>) -> Result<(), Memory>
+    ensures { OnOk result (out.new.items ≡ out.old.items ++ the_task) }
+{
+    push(out, b"  The task of core ")
+}
+
+/// Adds a task by its core and phase, and the line that declares it.
+#[tactic(auto, unfolding(crate::specs::Endings::task_text))]
+fn push_task(out: &mut Vec<u8>, places: &Places, phase: u32, core: u32) -> Result<(), Memory>
+    ensures { OnOk result (out.new.items ≡ out.old.items ++ task_text places.now phase core) }
+{
+    push_the_task(out)?;
+    push_decimal(out, core)?;
+    push(out, b" in phase ")?;
+    push_decimal(out, phase)?;
+    push_declared(out, places.task(phase as usize, core))
+}
+
+/// The place of the code word at an address, if there is one.
+fn code_place_at(places: &Places, address: u32) -> Option<CodePlace>
+    ensures { result ≡ code_place_at places.now address }
+{
+    if FIRST_CODE_ADDRESS <= address && address % 4 == 0 {
+        places.code_word(((address - FIRST_CODE_ADDRESS) / 4) as usize)
+    } else {
+        None
+    }
+}
+
+#[tactic(auto, unfolding(crate::specs::Endings::stands_at))]
+fn push_stands_at(out: &mut Vec<u8>, text: &[u8], place: CodePlace) -> Result<(), Memory>
+    ensures { OnOk result (out.new.items ≡ out.old.items ++ stands_at text.now place) }
+{
+    push(out, b" ended at ")?;
+    push_code_place(out, place)?;
+    push(out, b":\n  ")?;
+    push_quoted_line(out, text, place.line)
+}
+
+/// Adds where a task ended.
+fn push_line(out: &mut Vec<u8>, text: &[u8], place: Option<CodePlace>) -> Result<(), Memory>
+    ensures { OnOk result (out.new.items ≡ out.old.items ++ line_at text.now place) }
+{
+    match place {
+        Some(place) => push_stands_at(out, text, place),
+        None => push(out, b" ended where there is no code.\n"),
+    }
+}
+
+#[tactic(auto, unfolding(crate::specs::Endings::fuel_text))]
+fn push_fuel(out: &mut Vec<u8>) -> Result<(), Memory>
+    ensures { OnOk result (out.new.items ≡ out.old.items ++ fuel_text) }
+{
+    push(
+        out,
+        b" has retired as many instructions as it may, and hasn't ended.\n",
+    )?;
+    push(
+        out,
+        b"  See whether its loop ends. If it only takes long, the option `--fuel` gives it more.\n",
+    )
+}
+
+#[tactic(auto, unfolding(crate::specs::Endings::not_given_up))]
+fn push_not_given_up(out: &mut Vec<u8>) -> Result<(), Memory>
+    ensures { OnOk result (out.new.items ≡ out.old.items ++ not_given_up) }
+{
+    push(out, b", which isn't given up.\n")
+}
+
+#[tactic(auto, unfolding(crate::specs::Endings::wait_text))]
+fn push_wait(out: &mut Vec<u8>, program: &Program, lock: u32) -> Result<(), Memory>
+    ensures { OnOk result (out.new.items ≡ out.old.items ++ wait_text program.now lock) }
+{
+    push(out, b" waits for ")?;
+    push_lock(out, program.locks.as_slice(), lock as usize)?;
+    push_not_given_up(out)
+}
+
+#[tactic(auto, unfolding(crate::specs::Endings::holds_it))]
+fn push_holds_it(out: &mut Vec<u8>) -> Result<(), Memory>
+    ensures { OnOk result (out.new.items ≡ out.old.items ++ holds_it) }
+{
+    push(out, b" holds this lock.\n")
+}
+
+#[tactic(auto, unfolding(crate::specs::Endings::holder_untold))]
+fn push_holder_untold(out: &mut Vec<u8>) -> Result<(), Memory>
+    ensures { OnOk result (out.new.items ≡ out.old.items ++ holder_untold) }
+{
+    push(
+        out,
+        b"  The grants in this answer don't tell which task holds the lock.\n",
+    )
+}
+
+/// Adds which task of the phase holds a lock, if its core is known.
+fn push_holder(
+    out: &mut Vec<u8>,
+    places: &Places,
+    phase: u32,
+    holder: Option<u32>,
+) -> Result<(), Memory>
+    ensures { OnOk result (out.new.items ≡ out.old.items ++ holder_text places.now phase holder) }
+{
+    match holder {
+        Some(core) => {
+            push_task(out, places, phase, core)?;
+            push_holds_it(out)
+        }
+        None => push_holder_untold(out),
+    }
+}
+
+#[tactic(auto, unfolding(crate::specs::Endings::wait_remedy))]
+fn push_wait_remedy(out: &mut Vec<u8>) -> Result<(), Memory>
+    ensures { OnOk result (out.new.items ≡ out.old.items ++ wait_remedy) }
+{
+    push(
+        out,
+        b"  Have each task release what it acquires, and all tasks acquire their locks in one order.\n",
+    )
+}
+
+/// Appends the sentences on how a task of the text's program stands at the end of a run; nothing if it has finished.
+///
+/// `holder` is the core whose task holds the lock that this task waits for; None if that isn't known, or the task doesn't wait.
+///
+/// # Errors
+/// `Memory` if there is no room; the text may have a part of the sentences then.
+pub fn push_ending(
+    out: &mut Vec<u8>,
+    text: &[u8],
+    located: &Located,
+    task: TaskEnd,
+    holder: Option<u32>,
+) -> Result<(), Memory>
+    ensures { OnOk result (out.new.items ≡ out.old.items ++ ending_text text.now located.now holder task) }
+{
+    let (phase, core) = (task.phase.0, task.core.0);
+    match task.end {
+        EndShown::Finished => Ok(()),
+        EndShown::Fuel => {
+            push_task(out, &located.places, phase, core)?;
+            push_fuel(out)
+        }
+        EndShown::Trap { kind, pc, value } => {
+            push_task(out, &located.places, phase, core)?;
+            push_line(out, text, code_place_at(&located.places, pc))?;
+            push_trap(out, &located.program, kind, value)?;
+            let word_use = task_use(&located.program, phase, core, value);
+            push_declares(out, &located.program, kind, word_use)?;
+            push_remedy(out, kind)
+        }
+        EndShown::Waits { lock } => {
+            push_task(out, &located.places, phase, core)?;
+            push_wait(out, &located.program, lock.0)?;
+            push_holder(out, &located.places, phase, holder)?;
+            push_wait_remedy(out)
+        }
+    }
+}

@@ -1,0 +1,110 @@
+//! What is said of each kind of fault.
+ghost use Rattle.std.specs.Prelude.{◌≡◌};
+ghost use Rattle.sentences.specs.Faults.{faulty_line, complaint, amendment, range_amendment, finding_amendment};
+
+use crate::findings::{Cause, Finding};
+use rv_assembler::SourceFault;
+
+/// The line with the fault; None if the fault isn't that of a line.
+pub(crate) fn faulty_line(fault: SourceFault) -> Option<u32>
+    ensures { result ≡ faulty_line fault }
+{
+    match fault {
+        SourceFault::TooLarge | SourceFault::Memory => None,
+        SourceFault::BadByte { line }
+        | SourceFault::BadNumber { line }
+        | SourceFault::LineLimit { line }
+        | SourceFault::UnknownWord { line }
+        | SourceFault::BadOperand { line }
+        | SourceFault::OutOfRange { line }
+        | SourceFault::DoubleName { line }
+        | SourceFault::UnknownName { line }
+        | SourceFault::Misplaced { line }
+        | SourceFault::Limit { line } => Some(line),
+    }
+}
+
+/// What is wrong.
+pub(crate) fn complaint(fault: SourceFault) -> &'static [u8]
+    ensures { result.now ≡ complaint fault }
+{
+    match fault {
+        SourceFault::TooLarge => b"The text has more than 1048576 bytes.",
+        SourceFault::BadByte { .. } =>
+            b"Outside of comments only blanks, letters, digits and `_ . , : ( ) -` may stand.",
+        SourceFault::BadNumber { .. } =>
+            b"What begins with a digit or `-` is to be a number from -2147483648 to 4294967295.",
+        SourceFault::LineLimit { .. } =>
+            b"A line has at most 1024 bytes, and a text at most 65536 lines.",
+        SourceFault::UnknownWord { .. } => b"No statement begins with this word.",
+        SourceFault::BadOperand { .. } =>
+            b"This isn't the form of the statement, or a declared name begins with `.`.",
+        SourceFault::OutOfRange { .. } =>
+            b"A number is out of its range, or a label is too far away.",
+        SourceFault::DoubleName { .. } => b"The name that this line declares is declared already.",
+        SourceFault::UnknownName { .. } => b"No line declares this name as what is wanted here.",
+        SourceFault::Misplaced { .. } => b"This statement may not stand here.",
+        SourceFault::Limit { .. } => b"With this line the program is larger than a program may be.",
+        SourceFault::Memory => b"There was no memory.",
+    }
+}
+
+/// How to mend it, by the kind of the fault.
+pub(crate) fn amendment(fault: SourceFault) -> &'static [u8]
+    ensures { result.now ≡ amendment fault }
+{
+    match fault {
+        SourceFault::TooLarge => b"Leave out blanks and comments, or make two programs of it.",
+        SourceFault::BadByte { .. } =>
+            b"Leave the byte out. If it belongs to a comment, put `#` before it.",
+        SourceFault::BadNumber { .. } =>
+            b"Write decimal digits, or `0x` and hexadecimal digits. A name may not begin with a digit.",
+        SourceFault::LineLimit { .. } => b"Shorten the line, or leave out lines before it.",
+        SourceFault::UnknownWord { .. } =>
+            b"Write one of the language's statements, for example `addi` with a negative number in place of `subi`. Words are in lower case. A line has one label at most, with `:` behind it. `.forall` needs `.version 2` as the first line that isn't blank.",
+        SourceFault::BadOperand { .. } =>
+            b"Write the operands as the table of statements has them, with a comma between two. `addi`, `andi`, `slli` and `li` take a number at the end, and `add`, `and` and `sll` a register.",
+        SourceFault::OutOfRange { .. } =>
+            b"Write a number of its range, or a label that is nearer.",
+        SourceFault::DoubleName { .. } =>
+            b"Labels, regions and locks share one set of names: choose another name.",
+        SourceFault::UnknownName { .. } =>
+            b"Declare it, or look how it is spelled: names are case-sensitive.",
+        SourceFault::Misplaced { .. } =>
+            b"Tasks stand behind a `.phase`, each core has one task in a phase, and effects stand behind their task.",
+        SourceFault::Limit { .. } =>
+            b"A program has at most 16384 code words, 65536 data words, 256 regions (4096 in version 2), 32 locks, 64 phases and 64 tasks.",
+        SourceFault::Memory => b"Give it more memory.",
+    }
+}
+
+/// How to mend a number or a label that is out of range.
+fn range_amendment(cause: Cause) -> &'static [u8]
+    ensures { result.now ≡ range_amendment cause }
+{
+    match cause {
+        Cause::Range { .. } =>
+            b"Write a number of this range; `li` makes a larger one in a register.",
+        Cause::Length =>
+            b"Write a number of this range. All regions of a text have at most 65536 words together.",
+        Cause::Offset { .. } => b"Write a label that is nearer, or an even number of this range.",
+        Cause::Index { .. } =>
+            b"Write an index of the region's words, or give the region more of them.",
+        Cause::Interval { .. } =>
+            b"Write an interval of the region's words, also where a step moves it on from task to task, or give the region more of them.",
+        Cause::Cores =>
+            b"Use cores from 0 to 15: the first core and the number of tasks are at most 16 together.",
+        Cause::Address => b"Write a label, or the address of an instruction.",
+        _ => b"Write a number of its range, or a label that is nearer.",
+    }
+}
+
+/// How to mend it, by what is wrong with a part of the line, if that is known.
+pub(crate) fn finding_amendment(fault: SourceFault, finding: Option<Finding>) -> &'static [u8]
+    ensures { result.now ≡ finding_amendment fault finding }
+{
+    match (fault, finding) {
+        (SourceFault::OutOfRange { .. }, Some(finding)) => range_amendment(finding.cause),
+        _ => amendment(fault),
+    }
+}

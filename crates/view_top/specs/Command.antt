@@ -1,0 +1,180 @@
+-- The command: its options, which lists of words it takes, and what they ask for.
+use Rattle.std.specs.Prelude.{pos, ℕ, List, codes, bytes_eq, Option, Some, None, option_and_then, option_map, if◌then◌else◌}
+use Rattle.std.specs.Int.{IsInRange}
+use Rattle.clap.specs.Walk.{Row, Rule, Text, first_of}
+use Rattle.clap.specs.Simple.{App, new_app, new_rule, with_rule}
+use Rattle.clap.specs.declared.builder.action.ArgAction.TheVariants.{Set}
+use Rattle.clap.specs.declared.builder.value_parser.ValueParser.TheVariants as parser
+use Rattle.run_account.specs.declared.item.Grouping.{Grouping}
+use Rattle.run_account.specs.declared.item.Grouping.TheVariants as by
+use Rattle.run_account.specs.declared.form.Form.{Form}
+use Rattle.run_account.specs.declared.form.Form as form
+use Rattle.run_chart.specs.declared.finishing.Columns.{Columns}
+use Rattle.run_chart.specs.declared.finishing.Columns as columns
+use Rattle.command_words.specs.Words.{bare, faults_in, number_in, number_rule, text_rule, values_in, where_taken}
+use Rattle.view_top.specs.declared.options.View.{View}
+use Rattle.view_top.specs.declared.options.View as view
+use Rattle.view_top.specs.declared.options.ChartOptions.{ChartOptions}
+use Rattle.view_top.specs.declared.options.AccountOptions.{AccountOptions}
+use Rattle.view_top.specs.declared.options.StateOptions.{StateOptions}
+use Rattle.view_top.specs.declared.options.PageOptions.{PageOptions}
+
+-- ---- the command
+
+-- an option whose value is a number of 32 bits; its default depends on the mode
+abbrev pub open_number_rule : Text → Rule
+open_number_rule name = record (new_rule name) { long = Some name; action = Some Set; parser = Some (parser.Signed (pos 0) (pos 4294967295)) }
+
+-- the command `view` with its ten options
+unfoldable pub view_command : App
+view_command =
+    with_rule (with_rule (with_rule (with_rule (with_rule (with_rule (with_rule (with_rule (with_rule (with_rule (bare (new_app (codes "view")))
+    (text_rule (codes "mode") (codes "chart")))
+    (number_rule (codes "first") (codes "0")))
+    (open_number_rule (codes "rows")))
+    (text_rule (codes "columns") (codes "all")))
+    (number_rule (codes "tick-core") (codes "1")))
+    (number_rule (codes "tick-bank") (codes "10")))
+    (number_rule (codes "tick-mail") (codes "5")))
+    (text_rule (codes "by") (codes "run")))
+    (text_rule (codes "form") (codes "text")))
+    (number_rule (codes "event") (codes "0"))
+
+-- ---- what the values of its options ask for
+
+-- the number that an option asks for, or the given default
+abbrev pub where_given : Option Text → Option ℕ → ℕ → Option ℕ
+where_given None asked otherwise = Some otherwise
+where_given (Some text) asked otherwise = asked
+
+-- how many rows are asked for, from 1 to `most`; `otherwise` is the default
+abbrev pub rows_in : List Row → ℕ → ℕ → Option ℕ
+rows_in rows otherwise most = where_given (first_of (codes "rows") rows) (number_in rows (codes "rows") 1 most) otherwise
+
+-- the banks that have a column
+abbrev pub columns_named : Text → Option Columns
+columns_named text =
+    if bytes_eq text (codes "all") then Some columns.TheVariants.All
+    else if bytes_eq text (codes "used") then Some columns.TheVariants.Used
+    else None
+
+abbrev pub columns_in : List Row → Option Columns
+columns_in rows = option_and_then columns_named (first_of (codes "columns") rows)
+
+-- what a chart with these columns is asked, where each number is in its range
+unfoldable pub chart_options_from : List Row → Columns → Option ChartOptions
+chart_options_from rows shown =
+    option_and_then (λ (first : ℕ).
+    option_and_then (λ (most : ℕ).
+    option_and_then (λ (tick_core : ℕ).
+    option_and_then (λ (tick_bank : ℕ).
+    option_and_then (λ (tick_mail : ℕ).
+    Some (record { first = first; rows = most; columns = shown; tick_core = tick_core; tick_bank = tick_bank; tick_mail = tick_mail }))
+    (number_in rows (codes "tick-mail") 1 1000000))
+    (number_in rows (codes "tick-bank") 1 1000000))
+    (number_in rows (codes "tick-core") 1 1000000))
+    (rows_in rows 1000 4096))
+    (number_in rows (codes "first") 0 4294967295)
+
+-- the groups that a text names, and the form
+abbrev pub grouping_named : Text → Option Grouping
+grouping_named text =
+    if bytes_eq text (codes "run") then Some by.Run
+    else if bytes_eq text (codes "phase") then Some by.Phase
+    else if bytes_eq text (codes "core") then Some by.Core
+    else if bytes_eq text (codes "region") then Some by.Region
+    else None
+
+abbrev pub form_named : Text → Option Form
+form_named text =
+    if bytes_eq text (codes "text") then Some form.TheVariants.Text
+    else if bytes_eq text (codes "csv") then Some form.TheVariants.Csv
+    else None
+
+abbrev pub grouping_in : List Row → Option Grouping
+grouping_in rows = option_and_then grouping_named (first_of (codes "by") rows)
+
+abbrev pub form_in : List Row → Option Form
+form_in rows = option_and_then form_named (first_of (codes "form") rows)
+
+-- what an account is asked
+unfoldable pub account_options_from : List Row → Option AccountOptions
+account_options_from rows =
+    option_and_then (λ (grouping : Grouping).
+    option_and_then (λ (form : Form).
+    Some (record { by = grouping; form = form }))
+    (form_in rows))
+    (grouping_in rows)
+
+-- what a state is asked
+unfoldable pub state_options_from : List Row → Option StateOptions
+state_options_from rows =
+    option_and_then (λ (event : ℕ).
+    Some (record { event = event }))
+    (number_in rows (codes "event") 0 4294967295)
+
+-- what a page is asked, where each number is in its range
+unfoldable pub page_options_from : List Row → Option PageOptions
+page_options_from rows =
+    option_and_then (λ (first : ℕ).
+    option_and_then (λ (most : ℕ).
+    option_and_then (λ (tick_core : ℕ).
+    option_and_then (λ (tick_bank : ℕ).
+    option_and_then (λ (tick_mail : ℕ).
+    Some (record { first = first; rows = most; tick_core = tick_core; tick_bank = tick_bank; tick_mail = tick_mail }))
+    (number_in rows (codes "tick-mail") 1 1000000))
+    (number_in rows (codes "tick-bank") 1 1000000))
+    (number_in rows (codes "tick-core") 1 1000000))
+    (rows_in rows 4096 20000))
+    (number_in rows (codes "first") 0 4294967295)
+
+-- the mode that a text names, with what its own options ask for
+abbrev pub view_named : Option ChartOptions → AccountOptions → StateOptions → PageOptions → Text → Option View
+view_named chart account state page text =
+    if bytes_eq text (codes "chart") then option_map view.TheVariants.Chart chart
+    else if bytes_eq text (codes "account") then Some (view.TheVariants.Account account)
+    else if bytes_eq text (codes "state") then Some (view.TheVariants.State state)
+    else if bytes_eq text (codes "page") then Some (view.TheVariants.Page page)
+    else None
+
+-- what the values of all options ask for: each is in its range, also where the mode leaves it unused; the rows of a chart are fewer than those
+-- of a page
+unfoldable pub view_from : List Row → Option View
+view_from rows =
+    option_and_then (λ (shown : Columns).
+    option_and_then (λ (account : AccountOptions).
+    option_and_then (λ (state : StateOptions).
+    option_and_then (λ (page : PageOptions).
+    option_and_then (view_named (chart_options_from rows shown) account state page)
+    (first_of (codes "mode") rows))
+    (page_options_from rows))
+    (state_options_from rows))
+    (account_options_from rows))
+    (columns_in rows)
+
+-- what these words ask for, if the command takes them
+unfoldable pub view_of : List Text → Option View
+view_of words = where_taken (faults_in view_command words) (view_from (values_in view_command words))
+
+-- ---- limits
+
+-- each number of a chart is within its limits
+pub record IsChartInRange (o : ChartOptions) : Type 0 where
+  pub rows : IsInRange 1 4096 o.rows
+  pub tick_core : IsInRange 1 1000000 o.tick_core
+  pub tick_bank : IsInRange 1 1000000 o.tick_bank
+  pub tick_mail : IsInRange 1 1000000 o.tick_mail
+
+-- each number of a page is
+pub record IsPageInRange (o : PageOptions) : Type 0 where
+  pub rows : IsInRange 1 20000 o.rows
+  pub tick_core : IsInRange 1 1000000 o.tick_core
+  pub tick_bank : IsInRange 1 1000000 o.tick_bank
+  pub tick_mail : IsInRange 1 1000000 o.tick_mail
+
+-- each number of a mode is; an account and a state have none that is limited
+abbrev pub IsViewInRange : View → Type 0
+IsViewInRange (view.TheVariants.Chart o) = IsChartInRange o
+IsViewInRange (view.TheVariants.Account o) = Unit {0}
+IsViewInRange (view.TheVariants.State o) = Unit {0}
+IsViewInRange (view.TheVariants.Page o) = IsPageInRange o

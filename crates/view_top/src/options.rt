@@ -1,0 +1,65 @@
+use run_account::{Form, Grouping};
+use run_chart::Columns;
+
+/// What is made of the document of a run, and with which options. Each mode has its own options, and ignores those of the other
+/// modes.
+#[derive(Clone, Copy)]
+pub enum View {
+    /// The message chart of the run, as an SVG text.
+    Chart(ChartOptions),
+    /// What the run cost and why, in numbers.
+    Account(AccountOptions),
+    /// A state of the run, and what may come there.
+    State(StateOptions),
+    /// The data of the page that shows the run in a browser, as one JSON text.
+    Page(PageOptions),
+}
+
+/// What the words ask of a chart.
+#[derive(Clone, Copy)]
+pub struct ChartOptions {
+    /// The number of the first event that has a row, from 0.
+    pub first: u32,
+    /// The greatest number of rows, from 1 to 4,096.
+    pub rows: u32,
+    /// Which banks have a column.
+    pub columns: Columns,
+    /// Ticks of a core's own event, from 1 to 1,000,000.
+    pub tick_core: u32,
+    /// Ticks of a bank's event, from 1 to 1,000,000.
+    pub tick_bank: u32,
+    /// Ticks of each other event, from 1 to 1,000,000.
+    pub tick_mail: u32,
+}
+
+/// What the words ask of an account.
+#[derive(Clone, Copy)]
+pub struct AccountOptions {
+    /// What the groups of its numbers are.
+    pub by: Grouping,
+    /// How it is printed.
+    pub form: Form,
+}
+
+/// What the words ask of a state.
+#[derive(Clone, Copy)]
+pub struct StateOptions {
+    /// The number of the event, from 0, before which the state is. The number of all events asks for the state after the last
+    /// one.
+    pub event: u32,
+}
+
+/// What the words ask of a page.
+#[derive(Clone, Copy)]
+pub struct PageOptions {
+    /// The number of the page's first event, from 0.
+    pub first: u32,
+    /// How many events the page has at most, from 1 to 20,000.
+    pub rows: u32,
+    /// Ticks of a core's own event, from 1 to 1,000,000.
+    pub tick_core: u32,
+    /// Ticks of a bank's event, from 1 to 1,000,000.
+    pub tick_bank: u32,
+    /// Ticks of each other event, from 1 to 1,000,000.
+    pub tick_mail: u32,
+}

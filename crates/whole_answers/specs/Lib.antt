@@ -1,4 +1,0 @@
-pub mod Fronts
-pub mod Quotes
-pub mod Listing
-pub mod Trace
