@@ -26,6 +26,7 @@ pub fn denovo_given<R: Threads + Wait + Sync, S: Source, K: Sink>(
     ensures no_words { IsErr given → IsWithoutWords (devices_of S.Source K.Sink source.old sink.old) (devices_of S.Source K.Sink source.new sink.new) result }
     ensures words { IfOk given (λ words. HasEnded answer_code
         (Serves (options_of (map string_bytes words.items)) (devices_of S.Source K.Sink source.old sink.old) (devices_of S.Source K.Sink source.new sink.new)) result) }
+    ensures code { IsExitCode exit_code_of result }
 {
     match given {
         Ok(words) => exit_code(&denovo_main(rt, alloc, words.as_slice(), source, sink, &OpenGate)),

@@ -27,6 +27,7 @@ pub fn explain_given<T: Texts, S: Source, K: Sink>(
     ensures words { IfOk given (λ words. HasEnded exit_code_of
         (Serves (name_in (map string_bytes words.items)) (texts_of T.Texts texts.old) (texts_of T.Texts texts.new)
             (devices_of S.Source K.Sink source.old sink.old) (devices_of S.Source K.Sink source.new sink.new)) result) }
+    ensures code { IsExitCode exit_code_of result }
 {
     match given {
         Ok(words) => exit_code(&explain_main(alloc, words.as_slice(), texts, source, sink)),

@@ -63,6 +63,7 @@ pub fn answer_given<P: Program, S: Source, K: Sink>(
     ensures no_words { IsErr given → IsWithoutWords (devices_of S.Source K.Sink source.old sink.old) (devices_of S.Source K.Sink source.new sink.new) result }
     ensures words { IfOk given (λ words. HasEnded P.Status.code_of
         (Serves P.Status.told P.IsAnswer (P.asked_by (map string_bytes words.items)) (devices_of S.Source K.Sink source.old sink.old) (devices_of S.Source K.Sink source.new sink.new)) result) }
+    ensures code { IsExitCode P.Status.code_of result }
 {
     match given {
         Ok(words) => exit_code(&serve_words::<P, S, K>(alloc, words.as_slice(), source, sink)),
