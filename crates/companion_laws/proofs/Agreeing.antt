@@ -10,9 +10,8 @@ use Rattle.claims.specs.declared.claim.Claim.{Claim}
 use Rattle.claims.specs.declared.verdict.Verdict.TheVariants.{Agrees}
 use Rattle.claims.specs.Judge.{IsVerdict, AgreesWithRun}
 use Rattle.claims.proofs.Verdicts.{run_agrees}
-use Rattle.referee_top.specs.declared.answering.Reply.{Reply}
 use Rattle.referee_top.specs.declared.mode.RefereeMode as mode
-use Rattle.referee_top.specs.Answers.{IsAnswer, verdict_reply}
+use Rattle.referee_top.specs.Answers.{Reply, IsAnswer, verdict_reply}
 use Rattle.referee_top.proofs.Agreeing.{true-agrees}
 use Rattle.companion_laws.specs.Claims.{IsClaimOf, IsClaimOfRun}
 

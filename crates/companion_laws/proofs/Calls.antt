@@ -5,10 +5,12 @@ use Rattle.command_words.specs.declared.options.Options.{Options}
 use Rattle.clap.specs.Walk.{Text}
 use Rattle.command_words.specs.Command.{OptionsInRange, options_of}
 use Rattle.program_outside.specs.Outside.{Devices}
-use Rattle.run_report.specs.Texts.{usage_line}
+use Rattle.program_outside.specs.Serving.{usage_line}
 use Rattle.dn_top.specs.Answers.{IsOutcome}
 use Rattle.dn_top.specs.Laws.{Call, IsTextAnswered}
 use Rattle.dn_top.specs.Serving.{HasDone, HasRefused, ForText, text_to_answer}
+use Rattle.run_report.specs.declared.refusal.Refusal as refusal
+use Rattle.run_report.specs.Refusal.{refusal_of}
 use Rattle.explained_answer.specs.declared.line.AnswerLine as line
 use Rattle.explained_answer.specs.declared.line.FixedLine as fixed
 use Rattle.explained_answer.specs.declared.explaining.Explained.{Explained}
@@ -31,6 +33,11 @@ of_text o text before Holds about h =
     let same : h.options ≡ o = same_options h.options o (sym h.asked) in
     at-some (text_to_answer o before.source) text (Holds o) about (subst (λ (p : Options). IfSome (text_to_answer p before.source) (Holds p)) same h.text)
 
+-- the line that refuses command words is the one that answers may have
+usage_is : usage_line ≡ refusal_of refusal.TheVariants.Usage
+unfolding refusal_of
+usage_is = refl
+
 module _ (once : IsRefusedOnce) where
   pub call-taken : (words : List Text) (o : Options) (asked : List ℕ) (call : Call) → options_of words ≡ Some o → IsTextAnswered o asked call → IsCallTaken o asked call
   call-taken words o asked call wanted h = by_end h.ends
@@ -49,4 +56,4 @@ module _ (once : IsRefusedOnce) where
           record { out = said.out; answer = inr said.refusal; took = said.took; taken = λ text e beside explained. answer-taken once o asked said.out text e range (inr said.refusal) beside explained }
 
   pub usage-taken : (text : List ℕ) (e : Explained) → IsExplained text usage_line e → IsTaken e
-  usage-taken text e h = before-taken once text usage_line (line.TheVariants.Fixed fixed.TheVariants.Usage) refl tt (λ l. refl) refl e h
+  usage-taken text e h = before-taken once text usage_line (line.TheVariants.Fixed fixed.TheVariants.Usage) refl tt (λ l. refl) usage_is e h

@@ -36,9 +36,8 @@ use Rattle.dn_top.specs.Laws.{Call}
 use Rattle.checked_runs.specs.Runs.{HasFlatRun, IsRunOf, reported}
 use Rattle.dn_top.specs.Runs.{shape_for}
 use Rattle.dn_top.specs.Serving.{HasDone, ForText, text_to_answer}
-use Rattle.referee_top.specs.declared.answering.Reply.{Reply}
 use Rattle.referee_top.specs.declared.mode.RefereeMode as referee
-use Rattle.referee_top.specs.Answers.{HasTold, IsAnswer, verdict_reply}
+use Rattle.referee_top.specs.Answers.{Reply, HasTold, IsAnswer, verdict_reply}
 use Rattle.referee_top.proofs.Agreeing.{true-agrees}
 use Rattle.referee_top.proofs.Fit.{one-program}
 use Rattle.companion_laws.proofs.Agreeing.{loads-claimed}

@@ -7,8 +7,7 @@ use Rattle.dn_top.specs.declared.output.Output.{Output}
 use Rattle.dn_top.specs.Answers.{IsAnswer}
 use Rattle.explained_answer.specs.declared.explaining.Explained.{Explained}
 use Rattle.explained_answer.specs.declared.explaining.Explained.TheVariants.{Text, Refused}
-use Rattle.explain_top.specs.declared.answering.Output.{Output as Explanation}
-use Rattle.explain_top.specs.Answers.{IsOutput, output_of}
+use Rattle.explain_top.specs.Answers.{Explanation, IsOutput, output_of}
 use Rattle.companion_laws.specs.Taken.{IsTaken, is_beside}
 use Rattle.companion_laws.proofs.Refused.{IsRefusedOnce}
 use Rattle.companion_laws.proofs.Modes.{answer-taken}

@@ -18,9 +18,8 @@ ghost use Rattle.program_outside.specs.Outside.{Took};
 ghost use Rattle.run_report.specs.Texts.{HasChecked};
 ghost use Rattle.dn_top.specs.Laws.{Call};
 ghost use Rattle.checked_runs.specs.Runs.{IsRunOf};
-ghost use Rattle.referee_top.specs.declared.answering.Reply.{Reply};
 ghost use Rattle.referee_top.specs.declared.mode.RefereeMode.TheVariants.{Judge};
-ghost use Rattle.referee_top.specs.Answers.{HasTold, IsAnswer, verdict_reply};
+ghost use Rattle.referee_top.specs.Answers.{Reply, HasTold, IsAnswer, verdict_reply};
 ghost use Rattle.companion_laws.specs.Claims.{IsClaimOf, IsClaimOfRun};
 ghost use Rattle.companion_laws.specs.HandedBack.{IsClaimOfRecord, claims_run_in, HandedBack};
 

@@ -9,7 +9,8 @@ use Rattle.dn_top.specs.declared.output.Output.{Output}
 use Rattle.dn_top.specs.declared.serving.Answer.{Answer}
 use Rattle.dn_top.specs.Answers.{most_read, IsRefusal, IsAnswer, IsOutcome}
 use Rattle.program_outside.specs.Outside.{SourceState, SinkState, Devices, SourceFailed, SinkFailed, GaveAtMost, IsUntouched, IsFlushed, Delivered, TookFront}
-use Rattle.dn_top.specs.Serving.{text_to_answer, most_asked, IsOutcomeOrRefusal, IsRunWithStatus, HandsBack, HasDone, HasRefused, HasFailed, HasStatus, has_stopped, Serves, IsWritten, IsReplied, IsUnread, IsUnheld, IsObtained, obtained_by, IsDoneBy, without_run}
+use Rattle.dn_top.specs.Serving.{text_to_answer, most_asked, IsOutcomeOrRefusal, IsRunWithStatus, HandsBack, HasDone, HasRefused, HasFailed, HasStatus, has_stopped, Serves, IsObtained, obtained_by, IsDoneBy, IsWrittenAnswer, answer_told, output_in, without_run}
+use Rattle.program_outside.specs.Serving.{IsWritten, IsReplied, IsUnread, IsUnheld}
 use Rattle.dn_top.proofs.Statuses.{fails, outcome_or_refusal-fails, other, outcome-other, answer-other, answer-done, answer-refused, answer-no_run, done-comes, done-plain, done-run}
 use Rattle.dn_top.proofs.Fronts.{AnswersAlike, taken-alike}
 
@@ -53,13 +54,13 @@ module _ (o : Options) (before after : SinkState) (text : List ℕ) (answer : An
     delivered : Delivered before after out.bytes
 
   -- a reply with a status that some answer has was written
-  written : IsReplied o before after text answer → other answer.status ≡ false → Written
-  written (inl given) plain = by_finish given.finished
+  written : IsReplied answer_told (IsWrittenAnswer o text) before after answer → other answer.status ≡ false → Written
+  written (inl given) plain = by_finish given.written
     where
-      by_finish : IsWritten before after given.out answer → Written
-      by_finish (inl (e, delivered)) = record { out = given.out; is = given.is; ends = status_at answer _ e; run = run_at answer _ e; delivered = delivered }
+      by_finish : IsWritten answer_told given.output before after answer → Written
+      by_finish (inl (e, delivered)) = record { out = (output_in given.output); is = given.answer; ends = status_at answer _ e; run = run_at answer _ e; delivered = delivered }
       by_finish (inr (e, failed, front)) = let bad : other answer.status ≡ true = ap other (status_at answer _ e) in cc
-  written (inr starved) plain = let bad : other answer.status ≡ true = ap other (status_at answer _ starved.memory) in cc
+  written (inr starved) plain = let bad : other answer.status ≡ true = ap other (status_at answer _ starved.0) in cc
 
   record Stopped : Type 0 where
     out : Output
@@ -68,69 +69,69 @@ module _ (o : Options) (before after : SinkState) (text : List ℕ) (answer : An
     front : TookFront before after out.bytes
 
   -- one with the status WriteFault was cut off
-  stopped : IsReplied o before after text answer → answer.status ≡ status.TheVariants.WriteFault → Stopped
-  stopped (inl given) r = by_finish given.finished
+  stopped : IsReplied answer_told (IsWrittenAnswer o text) before after answer → answer.status ≡ status.TheVariants.WriteFault → Stopped
+  stopped (inl given) r = by_finish given.written
     where
-      by_finish : IsWritten before after given.out answer → Stopped
-      by_finish (inl (e, delivered)) = absurd (unlike o text given.out status.TheVariants.WriteFault given.is refl (sym (status_at answer _ e) ∙ r))
-      by_finish (inr (e, failed, front)) = record { out = given.out; is = given.is; failed = failed; front = front }
-  stopped (inr starved) r = let bad : status.TheVariants.Memory ≡ status.TheVariants.WriteFault = sym (status_at answer _ starved.memory) ∙ r in cc
+      by_finish : IsWritten answer_told given.output before after answer → Stopped
+      by_finish (inl (e, delivered)) = absurd (unlike o text (output_in given.output) status.TheVariants.WriteFault given.answer refl (sym (status_at answer _ e) ∙ r))
+      by_finish (inr (e, failed, front)) = record { out = (output_in given.output); is = given.answer; failed = failed; front = front }
+  stopped (inr starved) r = let bad : status.TheVariants.Memory ≡ status.TheVariants.WriteFault = sym (status_at answer _ starved.0) ∙ r in cc
 
   -- one with the status Memory left the sink alone
-  starved-untouched : IsReplied o before after text answer → answer.status ≡ status.TheVariants.Memory → IsUntouched before after
-  starved-untouched (inl given) r = by_finish given.finished
+  starved-untouched : IsReplied answer_told (IsWrittenAnswer o text) before after answer → answer.status ≡ status.TheVariants.Memory → IsUntouched before after
+  starved-untouched (inl given) r = by_finish given.written
     where
-      by_finish : IsWritten before after given.out answer → IsUntouched before after
-      by_finish (inl (e, delivered)) = absurd (unlike o text given.out status.TheVariants.Memory given.is refl (sym (status_at answer _ e) ∙ r))
+      by_finish : IsWritten answer_told given.output before after answer → IsUntouched before after
+      by_finish (inl (e, delivered)) = absurd (unlike o text (output_in given.output) status.TheVariants.Memory given.answer refl (sym (status_at answer _ e) ∙ r))
       by_finish (inr (e, failed, front)) = let bad : status.TheVariants.WriteFault ≡ status.TheVariants.Memory = sym (status_at answer _ e) ∙ r in cc
-  starved-untouched (inr starved) r = starved.untouched
+  starved-untouched (inr starved) r = starved.1
 
   -- none has one of these
-  never : (u : Status) → IsReplied o before after text answer → other u ≡ true → u ≢ status.TheVariants.WriteFault → u ≢ status.TheVariants.Memory → answer.status ≢ u
-  never u (inl given) bad no_fault no_memory r = by_finish given.finished
+  never : (u : Status) → IsReplied answer_told (IsWrittenAnswer o text) before after answer → other u ≡ true → u ≢ status.TheVariants.WriteFault → u ≢ status.TheVariants.Memory → answer.status ≢ u
+  never u (inl given) bad no_fault no_memory r = by_finish given.written
     where
-      by_finish : IsWritten before after given.out answer → ⊥
-      by_finish (inl (e, delivered)) = unlike o text given.out u given.is bad (sym (status_at answer _ e) ∙ r)
+      by_finish : IsWritten answer_told given.output before after answer → ⊥
+      by_finish (inl (e, delivered)) = unlike o text (output_in given.output) u given.answer bad (sym (status_at answer _ e) ∙ r)
       by_finish (inr (e, failed, front)) = no_fault (sym r ∙ status_at answer _ e)
-  never u (inr starved) bad no_fault no_memory r = no_memory (sym r ∙ status_at answer _ starved.memory)
+  never u (inr starved) bad no_fault no_memory r = no_memory (sym r ∙ status_at answer _ starved.0)
 
   -- one with another status than WriteFault has no fault of the sink
-  replied-faultless : IsReplied o before after text answer → answer.status ≢ status.TheVariants.WriteFault → after.faults ≡ before.faults
-  replied-faultless (inl given) no_fault = by_finish given.finished
+  replied-faultless : IsReplied answer_told (IsWrittenAnswer o text) before after answer → answer.status ≢ status.TheVariants.WriteFault → after.faults ≡ before.faults
+  replied-faultless (inl given) no_fault = by_finish given.written
     where
-      by_finish : IsWritten before after given.out answer → after.faults ≡ before.faults
+      by_finish : IsWritten answer_told given.output before after answer → after.faults ≡ before.faults
       by_finish (inl (e, delivered)) = delivered.faultless
       by_finish (inr (e, failed, front)) = absurd (no_fault (status_at answer _ e))
-  replied-faultless (inr starved) no_fault = sink_faults-untouched before after starved.untouched
+  replied-faultless (inr starved) no_fault = sink_faults-untouched before after starved.1
 
   -- one with an outcome's or a refusal's status left all flushed
-  replied-flushed : IsReplied o before after text answer → IsOutcomeOrRefusal answer.status → IsFlushed after
-  replied-flushed (inl given) is = by_finish given.finished
+  replied-flushed : IsReplied answer_told (IsWrittenAnswer o text) before after answer → IsOutcomeOrRefusal answer.status → IsFlushed after
+  replied-flushed (inl given) is = by_finish given.written
     where
-      by_finish : IsWritten before after given.out answer → IsFlushed after
+      by_finish : IsWritten answer_told given.output before after answer → IsFlushed after
       by_finish (inl (e, delivered)) = delivered.flushed
       by_finish (inr (e, failed, front)) = absurd (no-failure answer _ e refl is)
-  replied-flushed (inr starved) is = absurd (no-failure answer _ starved.memory refl is)
+  replied-flushed (inr starved) is = absurd (no-failure answer _ starved.0 refl is)
 
   -- where the sink has no fault the answer was written, if there was memory
-  finished : IsReplied o before after text answer → (SinkFailed before after → ⊥) → HasStatus o text answer.status ⊎ (answer.status ≡ status.TheVariants.Memory)
-  finished (inl given) calm = by_finish given.finished
+  finished : IsReplied answer_told (IsWrittenAnswer o text) before after answer → (SinkFailed before after → ⊥) → HasStatus o text answer.status ⊎ (answer.status ≡ status.TheVariants.Memory)
+  finished (inl given) calm = by_finish given.written
     where
-      by_finish : IsWritten before after given.out answer → HasStatus o text answer.status ⊎ (answer.status ≡ status.TheVariants.Memory)
-      by_finish (inl (e, delivered)) = inl (record { out = given.out; answer = given.is; ends = status_at answer _ e })
+      by_finish : IsWritten answer_told given.output before after answer → HasStatus o text answer.status ⊎ (answer.status ≡ status.TheVariants.Memory)
+      by_finish (inl (e, delivered)) = inl (record { out = (output_in given.output); answer = given.answer; ends = status_at answer _ e })
       by_finish (inr (e, failed, front)) = absurd (calm failed)
-  finished (inr starved) calm = inr (status_at answer _ starved.memory)
+  finished (inr starved) calm = inr (status_at answer _ starved.0)
 
   -- one without an outcome's status hands no run back
-  replied-no_run : IsReplied o before after text answer → (IsOutcome answer.status → ⊥) → answer.run ≡ None
-  replied-no_run (inl given) none = by_finish given.finished
+  replied-no_run : IsReplied answer_told (IsWrittenAnswer o text) before after answer → (IsOutcome answer.status → ⊥) → answer.run ≡ None
+  replied-no_run (inl given) none = by_finish given.written
     where
-      by_finish : IsWritten before after given.out answer → answer.run ≡ None
+      by_finish : IsWritten answer_told given.output before after answer → answer.run ≡ None
       by_finish (inl (e, delivered)) =
           run_at answer _ e
-          ∙ answer-no_run o text given.out given.is (λ is. none (subst IsOutcome (sym (status_at answer _ e)) is))
+          ∙ answer-no_run o text (output_in given.output) given.answer (λ is. none (subst IsOutcome (sym (status_at answer _ e)) is))
       by_finish (inr (e, failed, front)) = run_at answer _ e
-  replied-no_run (inr starved) none = run_at answer _ starved.memory
+  replied-no_run (inr starved) none = run_at answer _ starved.0
 
 -- ---- what a call with options says
 
@@ -139,11 +140,11 @@ module _ (o : Options) (before after : Devices) (answer : Answer) where
   Alike text t = AnswersAlike o.mode o before.source after.source text t
 
   abbrev NoText : Type 0
-  NoText = IsUnread before after answer ⊎ IsUnheld before after answer
+  NoText = IsUnread answer_told before after answer ⊎ IsUnheld answer_told before after answer
 
   no_text-other : NoText → other answer.status ≡ true
-  no_text-other (inl is) = ap other (status_at answer _ is.fault)
-  no_text-other (inr is) = ap other (status_at answer _ is.memory)
+  no_text-other (inl is) = ap other (status_at answer _ is.0)
+  no_text-other (inr is) = ap other (status_at answer _ is.1.0)
 
   refusal-alike : (text t : List ℕ) (out : Output) → Alike text t → IsRefusal o text out → IsRefusal o t out
   refusal-alike text t out a r = record { line = r.line; why = a.refused r.line r.why; answer = r.answer }
@@ -160,7 +161,7 @@ module _ (o : Options) (before after : Devices) (answer : Answer) where
       let done = answer-done o served.text w.out w.is there in
       if-some (text_to_answer o before.source) (λ t. Alike served.text t) (λ t. HasDone o before after t answer)
       (λ t a. record { out = w.out; done = a.done w.out done; read = a.read w.out (a.done w.out done); took = w.delivered.took; ends = w.ends; run = w.run })
-      (taken-alike o before.source after.source served.text served.taken)
+      (taken-alike o before.source after.source served.text served.obtained)
 
   handed_back-clause : IsDoneBy o before after answer → IsOutcome answer.status → HandsBack o answer
   handed_back-clause (inr none) is = let plain = outcome-other answer.status is in let bad = no_text-other none in absurd cc
@@ -182,29 +183,29 @@ module _ (o : Options) (before after : Devices) (answer : Answer) where
       let refused = answer-refused o served.text w.out w.is (sym w.ends ∙ r) in
       if-some (text_to_answer o before.source) (λ t. Alike served.text t) (λ t. HasRefused o before after t)
       (λ t a. record { out = w.out; refusal = refusal-alike served.text t w.out a refused; took = w.delivered.took })
-      (taken-alike o before.source after.source served.text served.taken)
+      (taken-alike o before.source after.source served.text served.obtained)
 
   failed-clause : IsDoneBy o before after answer → answer.status ≡ status.TheVariants.WriteFault → SinkFailed before.sink after.sink × IfSome (text_to_answer o before.source) (λ t. HasFailed o before after t)
-  failed-clause (inr (inl is)) r = let bad : status.TheVariants.ReadFault ≡ status.TheVariants.WriteFault = sym (status_at answer _ is.fault) ∙ r in absurd cc
-  failed-clause (inr (inr is)) r = let bad : status.TheVariants.Memory ≡ status.TheVariants.WriteFault = sym (status_at answer _ is.memory) ∙ r in absurd cc
+  failed-clause (inr (inl is)) r = let bad : status.TheVariants.ReadFault ≡ status.TheVariants.WriteFault = sym (status_at answer _ is.0) ∙ r in absurd cc
+  failed-clause (inr (inr is)) r = let bad : status.TheVariants.Memory ≡ status.TheVariants.WriteFault = sym (status_at answer _ is.1.0) ∙ r in absurd cc
   failed-clause (inl served) r =
       let w = stopped o before.sink after.sink served.text answer served.reply r in (
         w.failed,
         if-some (text_to_answer o before.source) (λ t. Alike served.text t) (λ t. HasFailed o before after t)
             (λ t a. record { out = w.out; answer = answer-alike served.text t w.out a w.is; front = w.front })
-            (taken-alike o before.source after.source served.text served.taken),
+            (taken-alike o before.source after.source served.text served.obtained),
       )
 
   read_fault-clause : IsDoneBy o before after answer → answer.status ≡ status.TheVariants.ReadFault → SourceFailed before.source after.source × IsUntouched before.sink after.sink
   read_fault-clause (inl served) r =
       absurd (never o before.sink after.sink served.text answer status.TheVariants.ReadFault served.reply refl (λ x. cc) (λ x. cc) r)
-  read_fault-clause (inr (inl is)) r = (is.failed, is.untouched)
-  read_fault-clause (inr (inr is)) r = let bad : status.TheVariants.Memory ≡ status.TheVariants.ReadFault = sym (status_at answer _ is.memory) ∙ r in absurd cc
+  read_fault-clause (inr (inl is)) r = (is.1.0, is.1.1)
+  read_fault-clause (inr (inr is)) r = let bad : status.TheVariants.Memory ≡ status.TheVariants.ReadFault = sym (status_at answer _ is.1.0) ∙ r in absurd cc
 
   memory-clause : IsDoneBy o before after answer → answer.status ≡ status.TheVariants.Memory → IsUntouched before.sink after.sink
   memory-clause (inl served) r = starved-untouched o before.sink after.sink served.text answer served.reply r
-  memory-clause (inr (inl is)) r = is.untouched
-  memory-clause (inr (inr is)) r = is.untouched
+  memory-clause (inr (inl is)) r = is.1.1
+  memory-clause (inr (inr is)) r = is.1.1
 
   taken-faultless : (text : List ℕ) → IsObtained o before.source after.source text → after.source.faults ≡ before.source.faults
   taken-faultless text taken = by_most (most_read o.mode) taken
@@ -214,42 +215,42 @@ module _ (o : Options) (before after : Devices) (answer : Answer) where
       by_most (Some most) read = read.faultless
 
   source_faultless-clause : IsDoneBy o before after answer → answer.status ≢ status.TheVariants.ReadFault → after.source.faults ≡ before.source.faults
-  source_faultless-clause (inl served) no_fault = taken-faultless served.text served.taken
-  source_faultless-clause (inr (inl is)) no_fault = absurd (no_fault (status_at answer _ is.fault))
-  source_faultless-clause (inr (inr is)) no_fault = is.faultless
+  source_faultless-clause (inl served) no_fault = taken-faultless served.text served.obtained
+  source_faultless-clause (inr (inl is)) no_fault = absurd (no_fault (status_at answer _ is.0))
+  source_faultless-clause (inr (inr is)) no_fault = is.0
 
   sink_faultless-clause : IsDoneBy o before after answer → answer.status ≢ status.TheVariants.WriteFault → after.sink.faults ≡ before.sink.faults
   sink_faultless-clause (inl served) no_fault = replied-faultless o before.sink after.sink served.text answer served.reply no_fault
-  sink_faultless-clause (inr (inl is)) no_fault = sink_faults-untouched before.sink after.sink is.untouched
-  sink_faultless-clause (inr (inr is)) no_fault = sink_faults-untouched before.sink after.sink is.untouched
+  sink_faultless-clause (inr (inl is)) no_fault = sink_faults-untouched before.sink after.sink is.1.1
+  sink_faultless-clause (inr (inr is)) no_fault = sink_faults-untouched before.sink after.sink is.1.1
 
   flushed-clause : IsDoneBy o before after answer → IsOutcomeOrRefusal answer.status → IsFlushed after.sink
   flushed-clause (inl served) ends = replied-flushed o before.sink after.sink served.text answer served.reply ends
-  flushed-clause (inr (inl is)) ends = absurd (no-failure answer _ is.fault refl ends)
-  flushed-clause (inr (inr is)) ends = absurd (no-failure answer _ is.memory refl ends)
+  flushed-clause (inr (inl is)) ends = absurd (no-failure answer _ is.0 refl ends)
+  flushed-clause (inr (inr is)) ends = absurd (no-failure answer _ is.1.0 refl ends)
 
   usage-clause : IsDoneBy o before after answer → answer.status ≢ status.TheVariants.Usage
   usage-clause (inl served) r =
       never o before.sink after.sink served.text answer status.TheVariants.Usage served.reply refl (λ x. cc) (λ x. cc) r
-  usage-clause (inr (inl is)) r = let bad : status.TheVariants.ReadFault ≡ status.TheVariants.Usage = sym (status_at answer _ is.fault) ∙ r in cc
-  usage-clause (inr (inr is)) r = let bad : status.TheVariants.Memory ≡ status.TheVariants.Usage = sym (status_at answer _ is.memory) ∙ r in cc
+  usage-clause (inr (inl is)) r = let bad : status.TheVariants.ReadFault ≡ status.TheVariants.Usage = sym (status_at answer _ is.0) ∙ r in cc
+  usage-clause (inr (inr is)) r = let bad : status.TheVariants.Memory ≡ status.TheVariants.Usage = sym (status_at answer _ is.1.0) ∙ r in cc
 
   no_run-clause : IsDoneBy o before after answer → (IsOutcome answer.status → ⊥) → answer.run ≡ None
   no_run-clause (inl served) none = replied-no_run o before.sink after.sink served.text answer served.reply none
-  no_run-clause (inr (inl is)) none = run_at answer _ is.fault
-  no_run-clause (inr (inr is)) none = run_at answer _ is.memory
+  no_run-clause (inr (inl is)) none = run_at answer _ is.0
+  no_run-clause (inr (inr is)) none = run_at answer _ is.1.0
 
   complete-clause : IsDoneBy o before after answer → (t : List ℕ) → text_to_answer o before.source ≡ Some t → (SourceFailed before.source after.source → ⊥) → (SinkFailed before.sink after.sink → ⊥)
       → HasStatus o t answer.status ⊎ (answer.status ≡ status.TheVariants.Memory)
-  complete-clause (inr (inl is)) t e calm_source calm_sink = absurd (calm_source is.failed)
-  complete-clause (inr (inr is)) t e calm_source calm_sink = inr (status_at answer _ is.memory)
+  complete-clause (inr (inl is)) t e calm_source calm_sink = absurd (calm_source is.1.0)
+  complete-clause (inr (inr is)) t e calm_source calm_sink = inr (status_at answer _ is.1.0)
   complete-clause (inl served) t e calm_source calm_sink =
       by_reply (finished o before.sink after.sink served.text answer served.reply calm_sink)
     where
       by_reply : HasStatus o served.text answer.status ⊎ (answer.status ≡ status.TheVariants.Memory) → HasStatus o t answer.status ⊎ (answer.status ≡ status.TheVariants.Memory)
       by_reply (inr m) = inr m
       by_reply (inl h) =
-          let a = at-some (text_to_answer o before.source) t (λ (x : List ℕ). Alike served.text x) e (taken-alike o before.source after.source served.text served.taken) in
+          let a = at-some (text_to_answer o before.source) t (λ (x : List ℕ). Alike served.text x) e (taken-alike o before.source after.source served.text served.obtained) in
           inl (record { out = h.out; answer = answer-alike served.text t h.out a h.answer; ends = h.ends })
 
 -- ---- the clauses of a call

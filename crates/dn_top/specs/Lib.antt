@@ -1,6 +1,5 @@
 pub mod Answers
 pub mod Documents
-pub mod ExitCodes
 pub mod Laws
 pub mod Runs
 pub mod Serving

@@ -2,7 +2,7 @@
 use Rattle.std.specs.Prelude.{◌≡◌, ◌≢◌, ◌⊎◌, ℕ, false, List, [], Option, Some, None, IfSome, is_some, option_and_then}
 use Rattle.dn_base.specs.declared.status.Status.{Status}
 use Rattle.dn_base.specs.declared.status.Status as status
-use Rattle.dn_base.specs.Status.{status_of}
+use Rattle.dn_base.specs.Status.{exit_code_of, status_of}
 use Rattle.region_table.specs.Program.{ProgramParts}
 use Rattle.effect_checker.specs.Checked.{IsChecked}
 use Rattle.dn_machine.specs.declared.record.RunRecord.{RunRecord}
@@ -13,15 +13,16 @@ use Rattle.command_words.specs.declared.options.Mode.{Mode}
 use Rattle.command_words.specs.declared.options.Mode as mode
 use Rattle.command_words.specs.declared.options.Options.{Options}
 use Rattle.dn_top.specs.declared.output.Output.{Output}
-use Rattle.program_outside.specs.declared.reading.ReadError as reading
-use Rattle.program_outside.specs.declared.reading.ReadError.{ReadError}
+use Rattle.program_outside.specs.declared.ends.Failure.{Failure}
+use Rattle.program_outside.specs.declared.ends.Output as outside
 use Rattle.dn_top.specs.declared.serving.Answer.{Answer}
-use Rattle.dn_top.specs.Answers.{most_read, makes_run, runs_tasks, IsDone, IsRefusal, IsAnswer, IsOutcome}
-use Rattle.run_report.specs.Texts.{usage_line}
+use Rattle.dn_top.specs.Answers.{most_read, makes_run, runs_tasks, IsDone as IsDoneIn, IsRefusal, IsAnswer, IsOutcome}
 use Rattle.checked_runs.specs.Runs.{IsRunOf}
 use Rattle.dn_top.specs.Runs.{IsRunFor}
 use Rattle.checked_runs.specs.Documents.{shape_told}
-use Rattle.program_outside.specs.Outside.{SourceState, SinkState, Devices, SourceFailed, SinkFailed, GaveAtMost, IsUntouched, IsRead, IsFlushed, Took, Delivered, TookFront}
+use Rattle.program_outside.specs.Serving.{usage_line, IsDone}
+use Rattle.program_outside.specs.Statuses.{status_told}
+use Rattle.program_outside.specs.Outside.{SourceState, Devices, SourceFailed, SinkFailed, GaveAtMost, IsUntouched, IsRead, IsFlushed, Took, TookFront}
 
 -- ---- the text of a call
 
@@ -50,7 +51,7 @@ pub record ForText (wanted : Option Options) (source : SourceState) (Holds : Opt
 -- requires; the sink took exactly the output; and the answer has the output's status and its run
 pub record HasDone (o : Options) (before after : Devices) (text : List ℕ) (answer : Answer) : Type 0 where
   pub out : Output
-  pub done : IsDone o text out
+  pub done : IsDoneIn o text out
   pub read : read_by (most_read o.mode) before.source after.source
   pub took : Took before.sink after.sink out.bytes
   pub ends : answer.status ≡ out.status
@@ -148,37 +149,27 @@ pub record Serves (wanted : Option Options) (before after : Devices) (answer : A
 
 -- ---- its parts
 
--- the status if there is no text
-abbrev pub status_of_read : ReadError → Status
-status_of_read reading.TheVariants.Failed = status.TheVariants.ReadFault
-status_of_read reading.TheVariants.NoMemory = status.TheVariants.Memory
-
--- the answer of an output that was written, and one that is only a status
-abbrev pub answer_to : Output → Answer
-answer_to out = record { status = out.status; run = out.run }
-
+-- the end of a call that has no run: a status, and the one that tells a failure
 abbrev pub without_run : Status → Answer
 without_run s = record { status = s; run = None }
 
--- the output was delivered and the answer has its status and run; or the sink failed and took a prefix of its bytes
-abbrev pub IsWritten : SinkState → SinkState → Output → Answer → Type 0
-IsWritten before after out answer =
-    ((answer ≡ answer_to out) × Delivered before after out.bytes)
-    ⊎ ((answer ≡ without_run status.TheVariants.WriteFault) × SinkFailed before after × TookFront before after out.bytes)
+abbrev pub answer_told : Failure → Answer
+answer_told failure = without_run (status_told failure)
 
--- the output for a text was made, and written as far as the sink took it
-pub record IsGiven (o : Options) (before after : SinkState) (text : List ℕ) (answer : Answer) : Type 0 where
-  pub out : Output
-  pub is : IsAnswer o text out
-  pub finished : IsWritten before after out answer
+-- the exit code of an answer is that of its status
+abbrev pub answer_code : Answer → ℕ
+answer_code answer = exit_code_of answer.status
 
--- there was no memory for the output, and the sink was left alone
-pub record IsStarved (before after : SinkState) (answer : Answer) : Type 0 where
-  pub memory : answer ≡ without_run status.TheVariants.Memory
-  pub untouched : IsUntouched before after
+-- the answer of an output, and an output as what the shell of programs writes: its bytes, with the answer to end with
+abbrev pub answer_to : Output → Answer
+answer_to out = record { status = out.status; run = out.run }
 
-abbrev pub IsReplied : Options → SinkState → SinkState → List ℕ → Answer → Type 0
-IsReplied o before after text answer = IsGiven o before after text answer ⊎ IsStarved before after answer
+abbrev pub written_of : Output → outside.Output Answer
+written_of out = record { status = answer_to out; bytes = out.bytes }
+
+-- the output that is written so
+abbrev pub output_in : outside.Output Answer → Output
+output_in written = record { status = written.status.status; bytes = written.bytes; run = written.status.run }
 
 -- the text was generated, or it was read
 abbrev pub obtained_by : Option ℕ → ℕ → SourceState → SourceState → List ℕ → Type 0
@@ -188,24 +179,9 @@ obtained_by (Some most) size before after text = IsRead before after most text
 abbrev pub IsObtained : Options → SourceState → SourceState → List ℕ → Type 0
 IsObtained o before after text = obtained_by (most_read o.mode) o.size before after text
 
--- the text was obtained and answered
-pub record IsServed (o : Options) (before after : Devices) (answer : Answer) : Type 0 where
-  pub text : List ℕ
-  pub taken : IsObtained o before.source after.source text
-  pub reply : IsReplied o before.sink after.sink text answer
-
--- the source failed, and the sink was left alone
-pub record IsUnread (before after : Devices) (answer : Answer) : Type 0 where
-  pub fault : answer ≡ without_run status.TheVariants.ReadFault
-  pub failed : SourceFailed before.source after.source
-  pub untouched : IsUntouched before.sink after.sink
-
--- there was no memory for the text: no read failed, and the sink was left alone
-pub record IsUnheld (before after : Devices) (answer : Answer) : Type 0 where
-  pub memory : answer ≡ without_run status.TheVariants.Memory
-  pub faultless : after.source.faults ≡ before.source.faults
-  pub untouched : IsUntouched before.sink after.sink
+abbrev pub IsWrittenAnswer : Options → List ℕ → outside.Output Answer → Type 0
+IsWrittenAnswer o text written = IsAnswer o text (output_in written)
 
 -- a call with options ended: their text was answered, or there was none
 abbrev pub IsDoneBy : Options → Devices → Devices → Answer → Type 0
-IsDoneBy o before after answer = IsServed o before after answer ⊎ (IsUnread before after answer ⊎ IsUnheld before after answer)
+IsDoneBy o before after answer = IsDone answer_told (IsObtained o) (IsWrittenAnswer o) before after answer

@@ -5,11 +5,12 @@ ghost use Rattle.std.specs.Prelude.{◌≡◌, map, string_bytes, None, IfSome};
 ghost use Rattle.std.specs.Option.{option_map};
 ghost use Rattle.command_words.specs.Command.{OptionsInRange, options_of};
 ghost use Rattle.dn_top.specs.Answers.{most_read};
-ghost use Rattle.program_outside.specs.Outside.{GaveAtMost, IsUntouched, devices, source_at};
+ghost use Rattle.program_outside.specs.Outside.{GaveAtMost, IsUntouched, devices_of, source_of};
 ghost use Rattle.dn_top.specs.Runs.{with_one_worker};
 ghost use Rattle.dn_top.specs.Serving.{IsDoneBy, Serves};
 
-use dn_base::{Gate, Sink, Source, Status};
+use dn_base::{Gate, Sink, Source};
+use program_outside::{EndStatus, Failure, refuse_words};
 use std::alloc::Global;
 use std::sync::Wait;
 use std::thread::Threads;
@@ -30,9 +31,9 @@ pub use laws::{
     a_proven_text_runs_inside, a_trace_replays_as_its_run,
     the_output_is_a_function_of_source_and_options,
 };
-pub use program::denovo_program;
+pub use program::{denovo_given, denovo_program};
 pub use serving::Answer;
-use serving::{answer_alone, answer_by_workers, refuse_words, status_only};
+use serving::{answer_alone, answer_by_workers};
 
 /// Answers these command words and this source on one thread, whatever number of workers is asked for.
 ///
@@ -56,13 +57,12 @@ pub fn answer_words<S: Source, K: Sink>(
     sink: &mut K,
 ) -> Answer
     ensures serves { Serves (option_map with_one_worker (options_of (map string_bytes words.now)))
-        (devices (S.content source.old) (S.faults source.old) (K.content sink.old) (K.flushed sink.old) (K.faults sink.old))
-        (devices (S.content source.new) (S.faults source.new) (K.content sink.new) (K.flushed sink.new) (K.faults sink.new)) result }
+        (devices_of S.Source K.Sink source.old sink.old) (devices_of S.Source K.Sink source.new sink.new) result }
 {
     match read_words(alloc, words) {
         Ok(options) => answer_alone(alloc, &options, source, sink),
         Err(WordsFault::Usage) => refuse_words(sink),
-        Err(WordsFault::Memory) => status_only(Status::Memory),
+        Err(WordsFault::Memory) => Answer::of(Failure::Memory),
     }
 }
 
@@ -77,11 +77,10 @@ fn answer_options<R: Threads + Wait + Sync, S: Source, K: Sink, G: Gate + Sync>(
 ) -> Answer
     requires { OptionsInRange options.now }
     ensures served { IsDoneBy options.now
-        (devices (S.content source.old) (S.faults source.old) (K.content sink.old) (K.flushed sink.old) (K.faults sink.old))
-        (devices (S.content source.new) (S.faults source.new) (K.content sink.new) (K.flushed sink.new) (K.faults sink.new)) result }
-    ensures few { IfSome (most_read options.now.mode) (GaveAtMost (source_at (S.content source.old) (S.faults source.old)) (source_at (S.content source.new) (S.faults source.new))) }
+        (devices_of S.Source K.Sink source.old sink.old) (devices_of S.Source K.Sink source.new sink.new) result }
+    ensures few { IfSome (most_read options.now.mode) (GaveAtMost (source_of S.Source source.old) (source_of S.Source source.new)) }
     ensures unread { most_read options.now.mode ≡ None
-        → IsUntouched (source_at (S.content source.old) (S.faults source.old)) (source_at (S.content source.new) (S.faults source.new)) }
+        → IsUntouched (source_of S.Source source.old) (source_of S.Source source.new) }
 {
     if options.workers == 1 {
         answer_alone(alloc, options, source, sink)
@@ -106,12 +105,11 @@ pub fn denovo_main<R: Threads + Wait + Sync, S: Source, K: Sink, G: Gate + Sync>
     gate: &G,
 ) -> Answer
     ensures serves { Serves (options_of (map string_bytes words.now))
-        (devices (S.content source.old) (S.faults source.old) (K.content sink.old) (K.flushed sink.old) (K.faults sink.old))
-        (devices (S.content source.new) (S.faults source.new) (K.content sink.new) (K.flushed sink.new) (K.faults sink.new)) result }
+        (devices_of S.Source K.Sink source.old sink.old) (devices_of S.Source K.Sink source.new sink.new) result }
 {
     match read_words(alloc, words) {
         Ok(options) => answer_options(rt, alloc, &options, source, sink, gate),
         Err(WordsFault::Usage) => refuse_words(sink),
-        Err(WordsFault::Memory) => status_only(Status::Memory),
+        Err(WordsFault::Memory) => Answer::of(Failure::Memory),
     }
 }

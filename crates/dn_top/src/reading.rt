@@ -1,6 +1,6 @@
 ghost use Rattle.std.specs.Prelude.{◌≡◌, ◌+◌, IfOk, IfErr, IfSome};
 ghost use Rattle.command_words.specs.Command.{OptionsInRange};
-ghost use Rattle.program_outside.specs.Outside.{SourceFailed, GaveAtMost, IsUntouched, source_at};
+ghost use Rattle.program_outside.specs.Outside.{SourceFailed, GaveAtMost, IsUntouched, source_of};
 ghost use Rattle.dn_top.specs.Answers.{most_read};
 ghost use Rattle.dn_top.specs.Serving.{IsObtained};
 
@@ -35,13 +35,13 @@ pub(crate) fn take_text<S: Source>(
     source: &mut S,
 ) -> Result<Vec<u8>, ReadError>
     requires { OptionsInRange options.now }
-    ensures text { IfOk result (λ text. IsObtained options.now (source_at (S.content source.old) (S.faults source.old)) (source_at (S.content source.new) (S.faults source.new)) text.items) }
+    ensures text { IfOk result (λ text. IsObtained options.now (source_of S.Source source.old) (source_of S.Source source.new) text.items) }
     ensures failed { IfErr result (λ error. error ≡ ReadError.Failed
-        → SourceFailed (source_at (S.content source.old) (S.faults source.old)) (source_at (S.content source.new) (S.faults source.new))) }
+        → SourceFailed (source_of S.Source source.old) (source_of S.Source source.new)) }
     ensures memory { IfErr result (λ error. error ≡ ReadError.NoMemory → S.faults source.new ≡ S.faults source.old) }
-    ensures few { IfSome (most_read options.now.mode) (GaveAtMost (source_at (S.content source.old) (S.faults source.old)) (source_at (S.content source.new) (S.faults source.new))) }
+    ensures few { IfSome (most_read options.now.mode) (GaveAtMost (source_of S.Source source.old) (source_of S.Source source.new)) }
     ensures unread { most_read options.now.mode ≡ None
-        → IsUntouched (source_at (S.content source.old) (S.faults source.old)) (source_at (S.content source.new) (S.faults source.new)) }
+        → IsUntouched (source_of S.Source source.old) (source_of S.Source source.new) }
 {
     match most_of(options.mode) {
         Some(most) => read_text(alloc, most, source),

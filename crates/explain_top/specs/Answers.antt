@@ -2,35 +2,40 @@
 use Rattle.std.specs.Prelude.{◌≡◌, ◌⊎◌, ℕ, ◌<◌, ◌≤◌, List, ◌++◌, length, codes}
 use Rattle.std.specs.Fmt.{decimal}
 use Rattle.dn_base.specs.declared.status.Status as status
+use Rattle.dn_base.specs.declared.status.Status.{Status}
 use Rattle.text_pieces.specs.Pieces.{newline}
 use Rattle.explained_answer.specs.declared.explaining.Explained.{Explained}
 use Rattle.explained_answer.specs.declared.explaining.Explained as explained
 use Rattle.explained_answer.specs.Explained.{IsExplained}
-use Rattle.explain_top.specs.declared.answering.Output.{Output}
+use Rattle.program_outside.specs.declared.ends.Output.{Output}
+
+-- a status, and all bytes that are to be written
+abbrev pub Explanation : Type 0
+Explanation = Output Status
 
 -- the line that refuses an answer: which of its lines, from 1, is the first that can't be a line of an answer to the text
 unfoldable pub refused_line : ℕ → List ℕ
 refused_line number = codes "refused answer " ++ decimal number ++ newline
 
-abbrev pub refused_output : List ℕ → Output
+abbrev pub refused_output : List ℕ → Explanation
 refused_output bytes = record { status = status.TheVariants.SourceRefused; bytes = bytes }
 
 -- what is written of an explained answer
-abbrev pub output_of : Explained → Output
+abbrev pub output_of : Explained → Explanation
 output_of (explained.TheVariants.Text bytes) = record { status = status.TheVariants.Done; bytes = bytes }
 output_of (explained.TheVariants.Refused number) = refused_output (refused_line number)
 
 -- the output is that of the answer explained
-pub record IsExplanation (text answer : List ℕ) (out : Output) : Type 0 where
+pub record IsExplanation (text answer : List ℕ) (out : Explanation) : Type 0 where
   pub within : length answer ≤ 536870912
   pub explained : Explained
   pub is : IsExplained text answer explained
   pub output : out ≡ output_of explained
 
 -- the answer has more bytes than are looked at
-pub record IsTooLong (answer : List ℕ) (out : Output) : Type 0 where
+pub record IsTooLong (answer : List ℕ) (out : Explanation) : Type 0 where
   pub large : 536870912 < length answer
   pub output : out ≡ refused_output (codes "refused answer too-large" ++ newline)
 
-abbrev pub IsOutput : (text answer : List ℕ) → Output → Type 0
+abbrev pub IsOutput : (text answer : List ℕ) → Explanation → Type 0
 IsOutput text answer out = IsExplanation text answer out ⊎ IsTooLong answer out

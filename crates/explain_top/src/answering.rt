@@ -3,18 +3,15 @@ ghost use Rattle.explain_top.specs.Answers.{IsOutput, refused_line, output_of};
 
 use dn_base::{MOST_OF_DOCUMENT, Memory, Sequence, Status};
 use explained_answer::{Explained, explain};
+use program_outside::Output;
 use std::alloc::Global;
 use text_pieces::{push, push_long};
 
 /// A status, and all bytes that are to be written.
-#[derive(Drop)]
-pub struct Output {
-    pub status: Status,
-    pub bytes: Sequence<u8>,
-}
+pub type Explanation = Output<Status>;
 
 /// A refusal with this line.
-fn refused(line: Vec<u8>) -> Output
+fn refused(line: Vec<u8>) -> Explanation
     ensures { result ≡ record { status = Status.SourceRefused; bytes = line.items } }
 {
     Output {
@@ -36,7 +33,7 @@ fn refused_line(alloc: Global, number: usize) -> Result<Vec<u8>, Memory>
 }
 
 /// What is written of an explained answer.
-fn output_of(alloc: Global, explained: Explained) -> Result<Output, Memory>
+fn output_of(alloc: Global, explained: Explained) -> Result<Explanation, Memory>
     ensures { IfOk result (λ output. output ≡ output_of explained) }
 {
     match explained {
@@ -52,7 +49,7 @@ fn output_of(alloc: Global, explained: Explained) -> Result<Output, Memory>
 ///
 /// # Errors
 /// `Memory` where there is no room.
-pub fn answer(alloc: Global, text: &[u8], answer: &[u8]) -> Result<Output, Memory>
+pub fn answer(alloc: Global, text: &[u8], answer: &[u8]) -> Result<Explanation, Memory>
     ensures { IfOk result (IsOutput text.now answer.now) }
 {
     if answer.len() > MOST_OF_DOCUMENT {

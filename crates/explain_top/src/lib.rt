@@ -7,10 +7,10 @@ mod program;
 mod serving;
 mod texts;
 
-pub use answering::{Output, answer};
+pub use answering::{Explanation, answer};
 pub use command::text_name;
 pub use command_words::WordsFault;
-pub use program::explain_program;
+pub use program::{explain_given, explain_program};
 pub use program_outside::ReadError;
-pub use serving::explain_main;
+pub use serving::{Explain, explain_main};
 pub use texts::Texts;

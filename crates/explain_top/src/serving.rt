@@ -1,57 +1,31 @@
-ghost use Rattle.std.specs.Prelude.{◌≡◌, ℕ, List, IfOk, map, string_bytes};
-ghost use Rattle.program_outside.specs.Outside.{devices, sink_at};
+ghost use Rattle.std.specs.Prelude.{◌≡◌, map, string_bytes};
+ghost use Rattle.program_outside.specs.Outside.{devices_of};
 ghost use Rattle.explain_top.specs.Answers.{IsOutput};
 ghost use Rattle.explain_top.specs.Command.{name_in};
-ghost use Rattle.explain_top.specs.Serving.{IsReplied, IsWritten, IsTextExplained, IsNamedServed, Serves, refused_words};
-ghost use Rattle.explain_top.specs.Texts.{texts_at};
+ghost use Rattle.explain_top.specs.Serving.{IsNamedServed, Serves, texts_of};
 
-use crate::answering::{Output, answer};
+use crate::answering::{Explanation, answer};
 use crate::command::text_name;
 use crate::texts::Texts;
 use command_words::WordsFault;
-use dn_base::{MOST_OF_DOCUMENT, MOST_OF_TEXT, Memory, Sink, Source, Status};
-use program_outside::{ReadError, read_text, write_text};
+use dn_base::{MOST_OF_TEXT, Memory, Sequence, Sink, Source, Status};
+use program_outside::{Answers, refuse_words, serve, unread};
 use std::alloc::Global;
 
-/// Writes the bytes, and tells this status, or `WriteFault` where the sink failed.
-fn finish<K: Sink>(sink: &mut K, bytes: &[u8], status: Status) -> Status
-    ensures { IsWritten (record { status = status; bytes = bytes.now }) (sink_at (K.content sink.old) (K.flushed sink.old) (K.faults sink.old)) (sink_at (K.content sink.new) (K.flushed sink.new) (K.faults sink.new)) result }
-{
-    match write_text(sink, bytes) {
-        Ok(()) => status,
-        Err(_) => Status::WriteFault,
-    }
-}
+/// The program explain: from a text and the answer that denovo printed for it to the answer explained.
+pub struct Explain;
 
-/// Refuses the command words.
-#[tactic(auto, unfolding(run_report::specs::Refusal::refusal_of))]
-fn refuse_words<K: Sink>(sink: &mut K) -> Status
-    ensures { IsWritten refused_words (sink_at (K.content sink.old) (K.flushed sink.old) (K.faults sink.old)) (sink_at (K.content sink.new) (K.flushed sink.new) (K.faults sink.new)) result }
-{
-    finish(sink, b"refused usage\n", Status::Usage)
-}
+impl Answers for Explain {
+    type Asked = Sequence<u8>;
 
-/// Writes the output for a text and an answer, where there was memory for it.
-fn reply<K: Sink>(sink: &mut K, output: Result<Output, Memory>) -> Status
-    ensures { (text told : List ℕ) → IfOk output (IsOutput text told)
-        → IsReplied text told (sink_at (K.content sink.old) (K.flushed sink.old) (K.faults sink.old)) (sink_at (K.content sink.new) (K.flushed sink.new) (K.faults sink.new)) result }
-{
-    match output {
-        Ok(Output { status, bytes }) => finish(sink, bytes.as_slice(), status),
-        Err(_) => Status::Memory,
-    }
-}
+    type Status = Status;
 
-/// Explains the answer to a text that the source has.
-fn serve<S: Source, K: Sink>(alloc: Global, text: &[u8], source: &mut S, sink: &mut K) -> Status
-    ensures { IsTextExplained text.now
-        (devices (S.content source.old) (S.faults source.old) (K.content sink.old) (K.flushed sink.old) (K.faults sink.old))
-        (devices (S.content source.new) (S.faults source.new) (K.content sink.new) (K.flushed sink.new) (K.faults sink.new)) result }
-{
-    match read_text(alloc, MOST_OF_DOCUMENT + 1, source) {
-        Ok(told) => reply(sink, answer(alloc, text, told.as_slice())),
-        Err(ReadError::Failed) => Status::ReadFault,
-        Err(ReadError::NoMemory) => Status::Memory,
+    ghost can_answer = { λ _. Unit {0} };
+
+    ghost IsAnswer = { IsOutput };
+
+    fn answer(alloc: Global, text: &Sequence<u8>, told: &[u8]) -> Result<Explanation, Memory> {
+        answer(alloc, text.as_slice(), told)
     }
 }
 
@@ -63,15 +37,12 @@ fn serve_named<T: Texts, S: Source, K: Sink>(
     source: &mut S,
     sink: &mut K,
 ) -> Status
-    ensures { IsNamedServed name.now
-        (texts_at (T.text texts.old) (T.faults texts.old)) (texts_at (T.text texts.new) (T.faults texts.new))
-        (devices (S.content source.old) (S.faults source.old) (K.content sink.old) (K.flushed sink.old) (K.faults sink.old))
-        (devices (S.content source.new) (S.faults source.new) (K.content sink.new) (K.flushed sink.new) (K.faults sink.new)) result }
+    ensures { IsNamedServed name.now (texts_of T.Texts texts.old) (texts_of T.Texts texts.new)
+        (devices_of S.Source K.Sink source.old sink.old) (devices_of S.Source K.Sink source.new sink.new) result }
 {
     match texts.read(alloc, name, MOST_OF_TEXT + 1) {
-        Ok(text) => serve(alloc, text.as_slice(), source, sink),
-        Err(ReadError::Failed) => Status::ReadFault,
-        Err(ReadError::NoMemory) => Status::Memory,
+        Ok(text) => serve::<Explain, S, K>(alloc, &Sequence::from_vec(text), source, sink),
+        Err(error) => unread(error),
     }
 }
 
@@ -90,10 +61,8 @@ pub fn explain_main<T: Texts, S: Source, K: Sink>(
     source: &mut S,
     sink: &mut K,
 ) -> Status
-    ensures serves { Serves (name_in (map string_bytes words.now))
-        (texts_at (T.text texts.old) (T.faults texts.old)) (texts_at (T.text texts.new) (T.faults texts.new))
-        (devices (S.content source.old) (S.faults source.old) (K.content sink.old) (K.flushed sink.old) (K.faults sink.old))
-        (devices (S.content source.new) (S.faults source.new) (K.content sink.new) (K.flushed sink.new) (K.faults sink.new)) result }
+    ensures serves { Serves (name_in (map string_bytes words.now)) (texts_of T.Texts texts.old) (texts_of T.Texts texts.new)
+        (devices_of S.Source K.Sink source.old sink.old) (devices_of S.Source K.Sink source.new sink.new) result }
 {
     match text_name(alloc, words) {
         Ok(name) => serve_named(alloc, name, texts, source, sink),

@@ -1,9 +1,8 @@
-ghost use Rattle.std.specs.Prelude.{◌≡◌, ◌≤◌, ℕ, List, Option, None, length, IfOk, IfErr, OnOk};
+ghost use Rattle.std.specs.Prelude.{◌≡◌, ℕ, List, Option, None, IfOk, IfErr, OnOk};
 ghost use Rattle.dn_base.specs.Faults.{Rose};
 ghost use Rattle.explain_top.specs.Texts.{IsTextRead};
 
-use dn_base::StdSource;
-use program_outside::{ReadError, read_text};
+use program_outside::{ReadError, read_opened};
 use std::alloc::Global;
 use std::fs;
 use std::rt::Files;
@@ -43,23 +42,13 @@ impl<'r, R: Files> HostFiles<'r, R> {
     }
 }
 
-/// The file of this name, or its first `most` bytes.
-fn read_file<R: Files>(rt: &R, alloc: Global, name: &str, most: usize) -> Result<Vec<u8>, ReadError>
-    ensures { IfOk result (λ found. length found.items ≤ most) }
-{
-    match fs::open(rt, name) {
-        Ok(file) => read_text(alloc, most, &mut StdSource::new(file)),
-        Err(_) => Err(ReadError::Failed),
-    }
-}
-
 impl<'r, R: Files> Texts for HostFiles<'r, R> {
     ghost text = { λ _ _. None };
 
     ghost faults = { λ s. s.faults };
 
     fn read(&mut self, alloc: Global, name: &str, most: usize) -> Result<Vec<u8>, ReadError> {
-        let read = read_file(self.rt, alloc, name, most);
+        let read = read_opened(alloc, most, fs::open(self.rt, name));
         if let Err(ReadError::Failed) = read {
             self.faults = self.faults.saturating_add(1);
         }

@@ -1,2 +1,4 @@
 pub mod ExitCodes
 pub mod Outside
+pub mod Serving
+pub mod Statuses

@@ -2,6 +2,8 @@
 use Rattle.std.specs.Prelude.{◌≡◌, ℕ, ◌<◌, ◌≤◌, Bool, true, List, ◌++◌, length, Option, IfSome}
 use Rattle.std.specs.Io.KnownBytes.{Consumes, Appends, IsAtEnd}
 use Rattle.dn_base.specs.Faults.{Rose}
+use Rattle.dn_base.specs.declared.outside.Source as source_trait
+use Rattle.dn_base.specs.declared.outside.Sink as sink_trait
 
 -- the state of a source: the bytes that are left, if it tells them, and how many of its calls have failed
 pub record SourceState : Type 0 where
@@ -25,9 +27,16 @@ pub record Devices : Type 0 where
   pub source : SourceState
   pub sink : SinkState
 
-abbrev pub devices : (left : Option (List ℕ)) → (source_faults : ℕ) → (held : Option (List ℕ)) → (flushed : Option Bool) → (sink_faults : ℕ) → Devices
-devices left source_faults held flushed sink_faults =
-    record { source = source_at left source_faults; sink = sink_at held flushed sink_faults }
+-- the state of a source and of a sink, by what their types tell
+abbrev pub source_of : {S : Type 0} → source_trait.Ghosts S → S → SourceState
+source_of tells source = source_at (tells.content source) (tells.faults source)
+
+abbrev pub sink_of : {K : Type 0} → sink_trait.Ghosts K → K → SinkState
+sink_of tells sink = sink_at (tells.content sink) (tells.flushed sink) (tells.faults sink)
+
+-- both devices of a call at a moment
+abbrev pub devices_of : {S K : Type 0} → source_trait.Ghosts S → sink_trait.Ghosts K → S → K → Devices
+devices_of source_tells sink_tells source sink = record { source = source_of source_tells source; sink = sink_of sink_tells sink }
 
 -- a call failed between the two states
 abbrev pub SourceFailed : SourceState → SourceState → Type 0
@@ -73,3 +82,8 @@ pub record TookFront (before after : SinkState) (output : List ℕ) : Type 0 whe
   pub rest : List ℕ
   pub parts : output ≡ front ++ rest
   pub taken : Took before after front
+
+-- a text was read of a source that nobody sees afterwards: to its end, or its first `most` bytes
+pub record IsReadOnce (before : SourceState) (most : ℕ) (text : List ℕ) : Type 0 where
+  pub after : SourceState
+  pub read : IsRead before after most text

@@ -1,9 +1,18 @@
-//! The input and output of every program here: it reads a text as a whole, writes an answer as a whole, and ends with an exit
-//! code.
+//! The shell of every program here: it takes the command words, reads a text as a whole, writes the answer as a whole, and ends
+//! with an exit code. A program gives it its words and its answer.
 #![tactic(auto)]
 
+mod ends;
+mod program;
+mod programs;
 mod reading;
+mod serving;
+mod statuses;
 mod writing;
 
-pub use reading::{ReadError, read_text};
+pub use ends::{EndStatus, Failure, Output};
+pub use program::{answer_given, exit_code, given_words, no_words, run_program};
+pub use programs::{Answers, Program};
+pub use reading::{ReadError, read_opened, read_text};
+pub use serving::{refuse_words, reply, serve, serve_words, unread};
 pub use writing::write_text;

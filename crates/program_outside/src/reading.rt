@@ -1,9 +1,10 @@
-ghost use Rattle.std.specs.Prelude.{◌≡◌, ◌≤◌, length, vec_len, IfOk, IfErr};
-ghost use Rattle.program_outside.specs.Outside.{SourceFailed, GaveAtMost, IsRead, source_at};
+ghost use Rattle.std.specs.Prelude.{◌≡◌, ◌≤◌, length, vec_len, Err, IfOk, IfErr, IsErr};
+ghost use Rattle.program_outside.specs.Outside.{SourceFailed, GaveAtMost, IsRead, IsReadOnce, source_at, source_of};
 ghost use Rattle.program_outside.specs.declared.reading.ReadError.TheVariants.{NoMemory};
 
-use dn_base::{Failed, Memory, Source};
+use dn_base::{Failed, Memory, Source, StdSource};
 use std::alloc::{AllocError, Global};
+use std::io::Read;
 
 /// Why no text was read.
 #[derive(Clone, Copy)]
@@ -57,11 +58,11 @@ pub fn read_text<S: Source>(
     most: usize,
     source: &mut S,
 ) -> Result<Vec<u8>, ReadError>
-    ensures text { IfOk result (λ text. IsRead (source_at (S.content source.old) (S.faults source.old)) (source_at (S.content source.new) (S.faults source.new)) most text.items) }
+    ensures text { IfOk result (λ text. IsRead (source_of S.Source source.old) (source_of S.Source source.new) most text.items) }
     ensures failed { IfErr result (λ error. error ≡ ReadError.Failed
-        → SourceFailed (source_at (S.content source.old) (S.faults source.old)) (source_at (S.content source.new) (S.faults source.new))) }
+        → SourceFailed (source_of S.Source source.old) (source_of S.Source source.new)) }
     ensures memory { IfErr result (λ error. error ≡ ReadError.NoMemory → S.faults source.new ≡ S.faults source.old) }
-    ensures few { GaveAtMost (source_at (S.content source.old) (S.faults source.old)) (source_at (S.content source.new) (S.faults source.new)) most }
+    ensures few { GaveAtMost (source_of S.Source source.old) (source_of S.Source source.new) most }
 {
     let mut text = Vec::new(alloc);
     let mut buf = [0; 4096];
@@ -75,4 +76,23 @@ pub fn read_text<S: Source>(
         }
     }
     Ok(text)
+}
+
+/// Reads what was opened to its end, or until `most` bytes have come.
+///
+/// # Errors
+/// `Failed` if it couldn't be opened, or a read fails. `NoMemory` if there is no room for the text.
+pub fn read_opened<R: Read + Drop, E: Drop>(
+    alloc: Global,
+    most: usize,
+    opened: Result<R, E>,
+) -> Result<Vec<u8>, ReadError>
+    ensures unopened { IsErr opened → result ≡ Err ReadError.Failed }
+    ensures text { IfOk opened (λ reader. IfOk result (λ text. IsReadOnce (source_at (R.remaining reader) 0) most text.items)) }
+    ensures within { IfOk result (λ text. length text.items ≤ most) }
+{
+    match opened {
+        Ok(reader) => read_text(alloc, most, &mut StdSource::new(reader)),
+        Err(_) => Err(ReadError::Failed),
+    }
 }

@@ -17,12 +17,11 @@ use Rattle.claims.specs.Right.{IsRightClaim, IsRightBy}
 use Rattle.claims.proofs.Verdicts.{one_verdict, run_agrees, agrees_run, right_agrees}
 use Rattle.run_report.specs.Texts.{HasChecked, IsUnfit}
 use Rattle.referee_top.proofs.Fit.{one-program, checked-fit}
-use Rattle.referee_top.specs.declared.answering.Reply.{Reply}
 use Rattle.referee_top.specs.declared.mode.RefereeMode.{RefereeMode}
 use Rattle.referee_top.specs.declared.mode.RefereeMode as mode
 use Rattle.referee_top.specs.declared.status.RefereeStatus.{RefereeStatus}
 use Rattle.referee_top.specs.declared.status.RefereeStatus as status
-use Rattle.referee_top.specs.Answers.{HasTold, verdict_status, verdict_reply, claim_reply, reply_by, IsJudged, IsReadable, refused_with, IsAnswer}
+use Rattle.referee_top.specs.Answers.{Reply, HasTold, verdict_status, verdict_reply, claim_reply, reply_by, IsJudged, IsReadable, refused_with, IsAnswer}
 use Rattle.referee_top.specs.Laws.{IsClaimOfOneThread}
 
 -- ---- a claim that agrees is answered so

@@ -18,11 +18,15 @@ use Rattle.claims.specs.declared.right.RightClaim.TheVariants.{Whole, Refused}
 use Rattle.claims.specs.Judge.{IsVerdict}
 use Rattle.claims.specs.Right.{IsRightBy, IsRightClaim, IsLeastClaim}
 use Rattle.run_report.specs.Texts.{HasChecked, IsUnfit}
-use Rattle.referee_top.specs.declared.answering.Reply.{Reply}
+use Rattle.program_outside.specs.declared.ends.Output.{Output}
 use Rattle.referee_top.specs.declared.mode.RefereeMode.{RefereeMode}
 use Rattle.referee_top.specs.declared.mode.RefereeMode as mode
 use Rattle.referee_top.specs.declared.status.RefereeStatus.{RefereeStatus}
 use Rattle.referee_top.specs.declared.status.RefereeStatus as status
+
+-- a status of the referee, and all bytes that are to be written
+abbrev pub Reply : Type 0
+Reply = Output RefereeStatus
 
 -- ---- a document, and the text that it tells
 

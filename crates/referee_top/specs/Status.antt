@@ -1,7 +1,7 @@
--- The exit codes of the referee.
-use Rattle.std.specs.Prelude.{◌≡◌, ◌⊎◌, ℕ}
-use Rattle.std.specs.Process.{exit_status}
-use Rattle.std.specs.declared.process.ExitCode.{ExitCode}
+-- The statuses of the referee: their exit codes, and those that tell why there is no answer.
+use Rattle.std.specs.Prelude.{ℕ}
+use Rattle.program_outside.specs.declared.ends.Failure.{Failure}
+use Rattle.program_outside.specs.declared.ends.Failure as failure
 use Rattle.referee_top.specs.declared.status.RefereeStatus as status
 use Rattle.referee_top.specs.declared.status.RefereeStatus.{RefereeStatus}
 
@@ -14,10 +14,9 @@ referee_code status.TheVariants.ReadFault = 6
 referee_code status.TheVariants.WriteFault = 7
 referee_code status.TheVariants.Memory = 8
 
--- the exit code of a status
-abbrev pub IsRefereeCode : RefereeStatus → ExitCode → Type 0
-IsRefereeCode s code = exit_status code ≡ referee_code s
-
--- the exit code of some status, or 9 if the runtime couldn't give the command words
-abbrev pub IsRefereeExit : ExitCode → Type 0
-IsRefereeExit code = ((s : RefereeStatus) × IsRefereeCode s code) ⊎ (exit_status code ≡ 9)
+-- the status that tells a failure is the one of the same name
+abbrev pub referee_told : Failure → RefereeStatus
+referee_told failure.TheVariants.Usage = status.TheVariants.Usage
+referee_told failure.TheVariants.ReadFault = status.TheVariants.ReadFault
+referee_told failure.TheVariants.WriteFault = status.TheVariants.WriteFault
+referee_told failure.TheVariants.Memory = status.TheVariants.Memory

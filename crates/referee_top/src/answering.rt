@@ -16,15 +16,12 @@ use claims::{
 };
 use dn_base::{Memory, Sequence};
 use effect_checker::Checked;
+use program_outside::Output;
 use run_report::{Stop, checked_of};
 use std::alloc::Global;
 
 /// A status, and all bytes that are to be written.
-#[derive(Drop)]
-pub struct Reply {
-    pub status: RefereeStatus,
-    pub bytes: Sequence<u8>,
-}
+pub type Reply = Output<RefereeStatus>;
 
 /// The status of a verdict.
 fn status_of(verdict: &Verdict) -> RefereeStatus
@@ -45,7 +42,7 @@ fn say(alloc: Global, verdict: &Verdict) -> Result<Reply, Memory>
 {
     let mut text = Vec::new(alloc);
     push_verdict(&mut text, verdict)?;
-    Ok(Reply {
+    Ok(Output {
         status: status_of(verdict),
         bytes: Sequence::from_vec(text),
     })
@@ -62,7 +59,7 @@ fn write(alloc: Global, claim: &Claim) -> Result<Reply, Stop>
     ensures stop { IfErr result (IsStop (IsTooLarge claim.now)) }
 {
     match claim_text(alloc, claim) {
-        Ok(document) => Ok(Reply {
+        Ok(document) => Ok(Output {
             status: RefereeStatus::Agrees,
             bytes: Sequence::from_vec(document),
         }),
@@ -161,7 +158,7 @@ pub fn answer(alloc: Global, asked: RefereeMode, document: &[u8]) -> Result<Repl
 {
     match done(alloc, asked, document) {
         Ok(reply) => Ok(reply),
-        Err(Stop::Refused(line)) => Ok(Reply {
+        Err(Stop::Refused(line)) => Ok(Output {
             status: RefereeStatus::Refused,
             bytes: line,
         }),

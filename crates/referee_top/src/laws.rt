@@ -1,11 +1,10 @@
 //! Laws of the referee's answers. A law is a function without effect; its contract states the theorem.
 ghost use Rattle.std.specs.Prelude.{◌≡◌, ◌≢◌, ◌↔◌, ℕ, List};
 ghost use Rattle.claims.specs.declared.verdict.Verdict.TheVariants.{Agrees as SaysAgrees};
-ghost use Rattle.referee_top.specs.declared.answering.Reply.{Reply};
 ghost use Rattle.referee_top.specs.declared.mode.RefereeMode.{RefereeMode};
 ghost use Rattle.referee_top.specs.declared.mode.RefereeMode.TheVariants.{Judge};
 ghost use Rattle.referee_top.specs.declared.status.RefereeStatus.TheVariants.{Agrees};
-ghost use Rattle.referee_top.specs.Answers.{IsAnswer, verdict_reply};
+ghost use Rattle.referee_top.specs.Answers.{Reply, IsAnswer, verdict_reply};
 ghost use Rattle.referee_top.specs.Laws.{IsClaimOfOneThread};
 
 /// The referee says that a document agrees exactly if it claims what one thread on one memory does by the claimed grants: their

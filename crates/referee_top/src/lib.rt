@@ -17,6 +17,6 @@ pub use command_words::WordsFault;
 pub use laws::{a_claim_agrees_where_one_thread_does, a_claim_that_is_printed_agrees};
 pub use mode::RefereeMode;
 pub use program::referee_program;
-pub use serving::referee_main;
+pub use serving::{Referee, referee_main};
 pub use status::RefereeStatus;
 pub use words::read_words;

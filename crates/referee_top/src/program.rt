@@ -1,43 +1,18 @@
-ghost use Rattle.std.specs.Prelude.{map, string_bytes};
-ghost use Rattle.program_outside.specs.Outside.{devices};
-ghost use Rattle.referee_top.specs.Command.{referee_mode_of};
-ghost use Rattle.referee_top.specs.Serving.{HasEnded};
-ghost use Rattle.referee_top.specs.Status.{IsRefereeExit};
+ghost use Rattle.program_outside.specs.ExitCodes.{IsExitCode};
+ghost use Rattle.referee_top.specs.Status.{referee_code};
 
-use crate::serving::referee_main;
-use command_words::{NO_WORDS, given_words};
-use dn_base::{Sink, Source, StdSink, StdSource};
-use std::alloc::Global;
-use std::io;
+use crate::serving::Referee;
+use program_outside::run_program;
 use std::process::ExitCode;
 use std::rt::Env;
-
-/// Answers these command words and this source, and ends with the exit code of the status.
-fn ended<S: Source, K: Sink>(
-    alloc: Global,
-    words: &[String],
-    source: &mut S,
-    sink: &mut K,
-) -> ExitCode
-    ensures { HasEnded (referee_mode_of (map string_bytes words.now))
-        (devices (S.content source.old) (S.faults source.old) (K.content sink.old) (K.flushed sink.old) (K.faults sink.old))
-        (devices (S.content source.new) (S.faults source.new) (K.content sink.new) (K.flushed sink.new) (K.faults sink.new)) result }
-{
-    ExitCode::from(referee_main(alloc, words, source, sink).code())
-}
 
 /// The program referee: what `referee_main` answers to the words that the runtime gives, with standard input and standard
 /// output.
 ///
 /// The exit code is that of the status, or 9 if the runtime can't give the words; nothing is read or written then. No contract
 /// can say which words the runtime gives, what standard input had, and what standard output took.
-pub fn referee_program(rt: &(impl Env + Input + Print + AllocGlobal)) -> ExitCode
-    ensures { IsRefereeExit result }
+pub fn referee_program<R: Env + Input + Print + AllocGlobal>(rt: &R) -> ExitCode
+    ensures { IsExitCode referee_code result }
 {
-    let Ok(words) = given_words(rt) else {
-        return ExitCode::from(NO_WORDS);
-    };
-    let mut source = StdSource::new(rt.reader());
-    let mut sink = StdSink::new(io::writer(rt));
-    ended(rt.alloc(), words.as_slice(), &mut source, &mut sink)
+    run_program::<Referee, R>(rt)
 }

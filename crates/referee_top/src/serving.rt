@@ -1,63 +1,41 @@
-ghost use Rattle.std.specs.Prelude.{ℕ, List, Some, IfOk, map, string_bytes};
-ghost use Rattle.program_outside.specs.Outside.{devices, sink_at};
-ghost use Rattle.referee_top.specs.declared.mode.RefereeMode.{RefereeMode as ModeOf};
-ghost use Rattle.referee_top.specs.Answers.{IsAnswer};
+ghost use Rattle.std.specs.Prelude.{map, string_bytes};
+ghost use Rattle.program_outside.specs.Outside.{devices_of};
+ghost use Rattle.program_outside.specs.Serving.{Serves};
+ghost use Rattle.referee_top.specs.Answers.{IsAnswer as IsReplyTo};
 ghost use Rattle.referee_top.specs.Command.{referee_mode_of};
-ghost use Rattle.referee_top.specs.Serving.{IsReplied, IsWritten, Serves, usage_reply};
+ghost use Rattle.referee_top.specs.Status.{referee_told};
 
 use crate::answering::{Reply, answer};
 use crate::mode::RefereeMode;
 use crate::status::RefereeStatus;
 use crate::words::read_words;
 use command_words::WordsFault;
-use dn_base::{MOST_OF_DOCUMENT, Memory, Sink, Source};
-use program_outside::{ReadError, read_text, write_text};
+use dn_base::{Memory, Sink, Source};
+use program_outside::{Answers, Program, serve_words};
 use std::alloc::Global;
 
-/// Writes the bytes, and tells this status, or `WriteFault` where the sink failed.
-fn finish<K: Sink>(sink: &mut K, bytes: &[u8], status: RefereeStatus) -> RefereeStatus
-    ensures { IsWritten (record { status = status; bytes = bytes.now }) (sink_at (K.content sink.old) (K.flushed sink.old) (K.faults sink.old)) (sink_at (K.content sink.new) (K.flushed sink.new) (K.faults sink.new)) result }
-{
-    match write_text(sink, bytes) {
-        Ok(()) => status,
-        Err(_) => RefereeStatus::WriteFault,
+/// The program referee: from a mode and a document to a verdict, or to a claim.
+pub struct Referee;
+
+impl Answers for Referee {
+    type Asked = RefereeMode;
+
+    type Status = RefereeStatus;
+
+    ghost can_answer = { λ _. Unit {0} };
+
+    ghost IsAnswer = { IsReplyTo };
+
+    fn answer(alloc: Global, asked: &RefereeMode, document: &[u8]) -> Result<Reply, Memory> {
+        answer(alloc, *asked, document)
     }
 }
 
-/// Refuses the command words.
-#[tactic(auto, unfolding(run_report::specs::Refusal::refusal_of))]
-fn refuse_words<K: Sink>(sink: &mut K) -> RefereeStatus
-    ensures { IsWritten usage_reply (sink_at (K.content sink.old) (K.flushed sink.old) (K.faults sink.old)) (sink_at (K.content sink.new) (K.flushed sink.new) (K.faults sink.new)) result }
-{
-    finish(sink, b"refused usage\n", RefereeStatus::Usage)
-}
+impl Program for Referee {
+    ghost asked_by = { referee_mode_of };
 
-/// Writes the answer to a document, where there was memory for it.
-fn reply<K: Sink>(sink: &mut K, made: Result<Reply, Memory>) -> RefereeStatus
-    ensures { (m : ModeOf) (document : List ℕ) → IfOk made (IsAnswer m document)
-        → IsReplied m document (sink_at (K.content sink.old) (K.flushed sink.old) (K.faults sink.old)) (sink_at (K.content sink.new) (K.flushed sink.new) (K.faults sink.new)) result }
-{
-    match made {
-        Ok(Reply { status, bytes }) => finish(sink, bytes.as_slice(), status),
-        Err(_) => RefereeStatus::Memory,
-    }
-}
-
-/// Answers the document that the source has.
-fn serve<S: Source, K: Sink>(
-    alloc: Global,
-    asked: RefereeMode,
-    source: &mut S,
-    sink: &mut K,
-) -> RefereeStatus
-    ensures { Serves (Some asked)
-        (devices (S.content source.old) (S.faults source.old) (K.content sink.old) (K.flushed sink.old) (K.faults sink.old))
-        (devices (S.content source.new) (S.faults source.new) (K.content sink.new) (K.flushed sink.new) (K.faults sink.new)) result }
-{
-    match read_text(alloc, MOST_OF_DOCUMENT + 1, source) {
-        Ok(document) => reply(sink, answer(alloc, asked, document.as_slice())),
-        Err(ReadError::Failed) => RefereeStatus::ReadFault,
-        Err(ReadError::NoMemory) => RefereeStatus::Memory,
+    fn read_words(alloc: Global, words: &[String]) -> Result<RefereeMode, WordsFault> {
+        read_words(alloc, words)
     }
 }
 
@@ -74,13 +52,7 @@ pub fn referee_main<S: Source, K: Sink>(
     source: &mut S,
     sink: &mut K,
 ) -> RefereeStatus
-    ensures serves { Serves (referee_mode_of (map string_bytes words.now))
-        (devices (S.content source.old) (S.faults source.old) (K.content sink.old) (K.flushed sink.old) (K.faults sink.old))
-        (devices (S.content source.new) (S.faults source.new) (K.content sink.new) (K.flushed sink.new) (K.faults sink.new)) result }
+    ensures serves { Serves referee_told IsReplyTo (referee_mode_of (map string_bytes words.now)) (devices_of S.Source K.Sink source.old sink.old) (devices_of S.Source K.Sink source.new sink.new) result }
 {
-    match read_words(alloc, words) {
-        Ok(asked) => serve(alloc, asked, source, sink),
-        Err(WordsFault::Usage) => refuse_words(sink),
-        Err(WordsFault::Memory) => RefereeStatus::Memory,
-    }
+    serve_words::<Referee, S, K>(alloc, words, source, sink)
 }

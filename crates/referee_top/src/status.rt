@@ -1,5 +1,7 @@
 ghost use Rattle.std.specs.Prelude.{◌≡◌};
-ghost use Rattle.referee_top.specs.Status.{referee_code};
+ghost use Rattle.referee_top.specs.Status.{referee_code, referee_told};
+
+use program_outside::{EndStatus, Failure};
 
 /// How the referee ended, as its exit code tells it.
 #[derive(Clone, Copy)]
@@ -26,5 +28,24 @@ impl RefereeStatus {
         ensures { result ≡ referee_code self }
     {
         self as u8
+    }
+}
+
+impl EndStatus for RefereeStatus {
+    ghost told = { referee_told };
+
+    ghost code_of = { referee_code };
+
+    fn of(failure: Failure) -> RefereeStatus {
+        match failure {
+            Failure::Usage => RefereeStatus::Usage,
+            Failure::ReadFault => RefereeStatus::ReadFault,
+            Failure::WriteFault => RefereeStatus::WriteFault,
+            Failure::Memory => RefereeStatus::Memory,
+        }
+    }
+
+    fn exit_code(&self) -> u8 {
+        self.code()
     }
 }

@@ -7,7 +7,7 @@ use Rattle.run_account.specs.declared.form.Form.{Form}
 use Rattle.run_account.specs.Forms.{account_text}
 use Rattle.run_report.specs.Texts.{HasProgram}
 use Rattle.checked_runs.specs.Documents.{shape_told}
-use Rattle.view_top.specs.declared.answering.Output.{Output}
+use Rattle.view_top.specs.Status.{Output}
 use Rattle.view_top.specs.declared.documents.KeptRun.{KeptRun}
 use Rattle.view_top.specs.declared.options.AccountOptions.{AccountOptions}
 use Rattle.view_top.specs.Answers.{heading_of, made, IsAccount, IsAccountOf}

@@ -19,7 +19,7 @@ use Rattle.run_report.specs.Texts.{HasChecked, HasProgram, IsStop}
 use Rattle.checked_runs.specs.Documents.{IsRefusedDocument, shape_told, HasTrace, IsNoRun, IsRunTold}
 use Rattle.checked_runs.specs.Runs.{IsPrintable}
 use Rattle.run_report.proofs.OneProgram.{one-program}
-use Rattle.view_top.specs.declared.answering.Output.{Output}
+use Rattle.view_top.specs.Status.{Output}
 use Rattle.view_top.specs.declared.documents.KeptRun.{KeptRun}
 use Rattle.view_top.specs.declared.options.StateOptions.{StateOptions}
 use Rattle.view_top.specs.Answers.{HasKeptRun, IsStateShown}

@@ -14,7 +14,7 @@ use Rattle.run_chart.specs.declared.drawing.Range.{Range}
 use Rattle.run_chart.specs.Charts.{IsChartOf}
 use Rattle.run_report.specs.Texts.{HasProgram}
 use Rattle.checked_runs.specs.Documents.{shape_told}
-use Rattle.view_top.specs.declared.answering.Output.{Output}
+use Rattle.view_top.specs.Status.{Output}
 use Rattle.view_top.specs.declared.documents.KeptRun.{KeptRun}
 use Rattle.view_top.specs.declared.options.ChartOptions.{ChartOptions}
 use Rattle.view_top.specs.Answers.{IsPicture, chart_ticks, last_number, located, made, range_for}

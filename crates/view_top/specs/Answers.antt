@@ -29,10 +29,11 @@ use Rattle.state_text.specs.declared.answer.StateAnswer.{StateAnswer}
 use Rattle.state_text.specs.Reached.{IsAnswerOf}
 use Rattle.page_data.specs.declared.page.Page.{Page}
 use Rattle.page_data.specs.Page.{IsPageOf}
-use Rattle.run_report.specs.Texts.{HasChecked, IsUnfit, usage_line}
+use Rattle.run_report.specs.Texts.{HasChecked, IsUnfit}
+use Rattle.program_outside.specs.Serving.{usage_line}
 use Rattle.checked_runs.specs.Documents.{IsRefusedDocument, HasTrace, IsNoDocument, IsRunTold, shape_told}
 use Rattle.checked_runs.specs.Runs.{reported}
-use Rattle.view_top.specs.declared.answering.Output.{Output}
+use Rattle.view_top.specs.Status.{Output}
 use Rattle.view_top.specs.declared.options.View.{View}
 use Rattle.view_top.specs.declared.options.View.TheVariants as view
 use Rattle.view_top.specs.declared.options.ChartOptions.{ChartOptions}

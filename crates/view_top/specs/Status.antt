@@ -1,7 +1,8 @@
--- The exit codes of the program.
-use Rattle.std.specs.Prelude.{◌≡◌, ◌⊎◌, ℕ}
-use Rattle.std.specs.Process.{exit_status}
-use Rattle.std.specs.declared.process.ExitCode.{ExitCode}
+-- The statuses of the program: their exit codes, and those that tell why there is no answer.
+use Rattle.std.specs.Prelude.{ℕ}
+use Rattle.program_outside.specs.declared.ends.Failure.{Failure}
+use Rattle.program_outside.specs.declared.ends.Failure as failure
+use Rattle.program_outside.specs.declared.ends.Output as ends
 use Rattle.view_top.specs.declared.status.ViewStatus as status
 use Rattle.view_top.specs.declared.status.ViewStatus.{ViewStatus}
 
@@ -14,10 +15,13 @@ view_code status.TheVariants.ReadFault = 6
 view_code status.TheVariants.WriteFault = 7
 view_code status.TheVariants.Memory = 8
 
--- the exit code of a status
-abbrev pub IsViewCode : ViewStatus → ExitCode → Type 0
-IsViewCode s code = exit_status code ≡ view_code s
+-- the status that tells a failure is the one of the same name
+abbrev pub view_told : Failure → ViewStatus
+view_told failure.TheVariants.Usage = status.TheVariants.Usage
+view_told failure.TheVariants.ReadFault = status.TheVariants.ReadFault
+view_told failure.TheVariants.WriteFault = status.TheVariants.WriteFault
+view_told failure.TheVariants.Memory = status.TheVariants.Memory
 
--- the exit code of some status, or 9 if the runtime couldn't give the command words
-abbrev pub IsViewExit : ExitCode → Type 0
-IsViewExit code = ((s : ViewStatus) × IsViewCode s code) ⊎ (exit_status code ≡ 9)
+-- a status, and all bytes that are to be written
+abbrev pub Output : Type 0
+Output = ends.Output ViewStatus

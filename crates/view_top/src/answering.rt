@@ -14,34 +14,32 @@ use run_report::{Refusal, Stop, refusal_line};
 use std::alloc::Global;
 
 /// A status, and all bytes that are to be written.
-#[derive(Drop)]
-pub struct Output {
-    pub status: ViewStatus,
-    pub bytes: Sequence<u8>,
+pub type Output = program_outside::Output<ViewStatus>;
+
+/// The output of this status and these bytes.
+pub(crate) fn output(status: ViewStatus, bytes: Sequence<u8>) -> Output
+    ensures { result ≡ record { status = status; bytes = bytes } }
+{
+    program_outside::Output { status, bytes }
 }
 
 /// The output of what was made.
 pub(crate) fn done_with(text: Vec<u8>) -> Output
     ensures { result ≡ made text.items }
 {
-    Output {
-        status: ViewStatus::Done,
-        bytes: Sequence::from_vec(text),
-    }
+    output(ViewStatus::Done, Sequence::from_vec(text))
 }
 
 /// The output that refuses the command words.
 ///
 /// # Errors
 /// `Memory` where there is no room for its line.
+#[tactic(auto, unfolding(run_report::specs::Refusal::refusal_of))]
 pub(crate) fn refused_words(alloc: Global) -> Result<Output, Memory>
     ensures { IfOk result (λ output. output ≡ usage) }
 {
     let line = refusal_line(alloc, &Refusal::Usage)?;
-    Ok(Output {
-        status: ViewStatus::Usage,
-        bytes: Sequence::from_vec(line),
-    })
+    Ok(output(ViewStatus::Usage, Sequence::from_vec(line)))
 }
 
 /// What each mode makes of a document.
@@ -83,10 +81,7 @@ pub fn answer(alloc: Global, view: &View, document: &[u8]) -> Result<Output, Mem
 {
     match view_made(alloc, view, document) {
         Ok(output) => Ok(output),
-        Err(Stop::Refused(line)) => Ok(Output {
-            status: ViewStatus::Refused,
-            bytes: line,
-        }),
+        Err(Stop::Refused(line)) => Ok(output(ViewStatus::Refused, line)),
         Err(Stop::Memory) => Err(Memory),
     }
 }

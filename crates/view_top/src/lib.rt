@@ -20,5 +20,5 @@ pub use command_words::WordsFault;
 pub use options::{AccountOptions, ChartOptions, PageOptions, StateOptions, View};
 pub use program::view_program;
 pub use reading::read_words;
-pub use serving::view_main;
+pub use serving::{Viewer, view_main};
 pub use status::ViewStatus;

@@ -10,7 +10,7 @@ ghost use Rattle.view_top.specs.Command.{IsPageInRange};
 ghost use Rattle.view_top.specs.Kept.{IsViewable};
 
 use crate::PageOptions;
-use crate::answering::{Output, refused_words};
+use crate::answering::{Output, output, refused_words};
 use crate::charts::last_number;
 use crate::documents::{KeptRun, kept_run, program_in, shape_of};
 use crate::status::ViewStatus;
@@ -83,10 +83,7 @@ fn data(alloc: Global, options: &PageOptions, kept: &KeptRun) -> Result<Output, 
     let timing = timing_of(alloc, kept, &page_ticks(options))?;
     let page = page_for(options, &kept.text, &kept.run, &timing);
     let bytes = bytes_of(alloc, kept, &page)?;
-    Ok(Output {
-        status: ViewStatus::Done,
-        bytes,
-    })
+    Ok(output(ViewStatus::Done, bytes))
 }
 
 /// The data of a run's page, or the refusal of a page that would begin after the run's last event.

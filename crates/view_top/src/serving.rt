@@ -1,58 +1,40 @@
-ghost use Rattle.std.specs.Prelude.{ℕ, List, Some, IfOk, map, string_bytes};
-ghost use Rattle.program_outside.specs.Outside.{devices, sink_at};
-ghost use Rattle.view_top.specs.declared.options.View.{View as ViewOf};
-ghost use Rattle.view_top.specs.Answers.{usage, IsAnswer};
+ghost use Rattle.std.specs.Prelude.{map, string_bytes};
+ghost use Rattle.program_outside.specs.Outside.{devices_of};
+ghost use Rattle.program_outside.specs.Serving.{Serves};
+ghost use Rattle.view_top.specs.Answers.{IsAnswer as IsOutputFor};
+ghost use Rattle.view_top.specs.Status.{view_told};
 ghost use Rattle.view_top.specs.Command.{view_of, IsViewInRange};
-ghost use Rattle.view_top.specs.Serving.{IsReplied, IsWritten, Serves};
 
 use crate::answering::{Output, answer};
 use crate::status::ViewStatus;
 use crate::{View, read_words};
 use command_words::WordsFault;
-use dn_base::{MOST_OF_DOCUMENT, Memory, Sink, Source};
-use program_outside::{ReadError, read_text, write_text};
+use dn_base::{Memory, Sink, Source};
+use program_outside::{Answers, Program, serve_words};
 use std::alloc::Global;
 
-/// Writes the bytes, and tells this status, or `WriteFault` where the sink failed.
-fn finish<K: Sink>(sink: &mut K, bytes: &[u8], status: ViewStatus) -> ViewStatus
-    ensures { IsWritten (record { status = status; bytes = bytes.now }) (sink_at (K.content sink.old) (K.flushed sink.old) (K.faults sink.old)) (sink_at (K.content sink.new) (K.flushed sink.new) (K.faults sink.new)) result }
-{
-    match write_text(sink, bytes) {
-        Ok(()) => status,
-        Err(_) => ViewStatus::WriteFault,
+/// The program view: from a view and the document of a run to what is to be seen of the run.
+pub struct Viewer;
+
+impl Answers for Viewer {
+    type Asked = View;
+
+    type Status = ViewStatus;
+
+    ghost can_answer = { IsViewInRange };
+
+    ghost IsAnswer = { IsOutputFor };
+
+    fn answer(alloc: Global, asked: &View, document: &[u8]) -> Result<Output, Memory> {
+        answer(alloc, asked, document)
     }
 }
 
-/// Refuses the command words.
-#[tactic(auto, unfolding(run_report::specs::Refusal::refusal_of))]
-fn refuse_words<K: Sink>(sink: &mut K) -> ViewStatus
-    ensures { IsWritten usage (sink_at (K.content sink.old) (K.flushed sink.old) (K.faults sink.old)) (sink_at (K.content sink.new) (K.flushed sink.new) (K.faults sink.new)) result }
-{
-    finish(sink, b"refused usage\n", ViewStatus::Usage)
-}
+impl Program for Viewer {
+    ghost asked_by = { view_of };
 
-/// Writes the answer to a document, where there was memory for it.
-fn reply<K: Sink>(sink: &mut K, output: Result<Output, Memory>) -> ViewStatus
-    ensures { (v : ViewOf) (document : List ℕ) → IfOk output (IsAnswer v document)
-        → IsReplied v document (sink_at (K.content sink.old) (K.flushed sink.old) (K.faults sink.old)) (sink_at (K.content sink.new) (K.flushed sink.new) (K.faults sink.new)) result }
-{
-    match output {
-        Ok(Output { status, bytes }) => finish(sink, bytes.as_slice(), status),
-        Err(_) => ViewStatus::Memory,
-    }
-}
-
-/// Answers the document that the source has.
-fn serve<S: Source, K: Sink>(alloc: Global, view: &View, source: &mut S, sink: &mut K) -> ViewStatus
-    requires { IsViewInRange view.now }
-    ensures { Serves (Some view.now)
-        (devices (S.content source.old) (S.faults source.old) (K.content sink.old) (K.flushed sink.old) (K.faults sink.old))
-        (devices (S.content source.new) (S.faults source.new) (K.content sink.new) (K.flushed sink.new) (K.faults sink.new)) result }
-{
-    match read_text(alloc, MOST_OF_DOCUMENT + 1, source) {
-        Ok(document) => reply(sink, answer(alloc, view, document.as_slice())),
-        Err(ReadError::Failed) => ViewStatus::ReadFault,
-        Err(ReadError::NoMemory) => ViewStatus::Memory,
+    fn read_words(alloc: Global, words: &[String]) -> Result<View, WordsFault> {
+        read_words(alloc, words)
     }
 }
 
@@ -69,13 +51,7 @@ pub fn view_main<S: Source, K: Sink>(
     source: &mut S,
     sink: &mut K,
 ) -> ViewStatus
-    ensures serves { Serves (view_of (map string_bytes words.now))
-        (devices (S.content source.old) (S.faults source.old) (K.content sink.old) (K.flushed sink.old) (K.faults sink.old))
-        (devices (S.content source.new) (S.faults source.new) (K.content sink.new) (K.flushed sink.new) (K.faults sink.new)) result }
+    ensures serves { Serves view_told IsOutputFor (view_of (map string_bytes words.now)) (devices_of S.Source K.Sink source.old sink.old) (devices_of S.Source K.Sink source.new sink.new) result }
 {
-    match read_words(alloc, words) {
-        Ok(view) => serve(alloc, &view, source, sink),
-        Err(WordsFault::Usage) => refuse_words(sink),
-        Err(WordsFault::Memory) => ViewStatus::Memory,
-    }
+    serve_words::<Viewer, S, K>(alloc, words, source, sink)
 }

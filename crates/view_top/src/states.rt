@@ -8,7 +8,7 @@ ghost use Rattle.view_top.specs.Answers.{status_at, view_made, IsStateShown, IsW
 ghost use Rattle.view_top.specs.Kept.{IsFit};
 
 use crate::StateOptions;
-use crate::answering::{Output, refused_words};
+use crate::answering::{Output, output, refused_words};
 use crate::documents::{places_in, shape_of};
 use crate::status::ViewStatus;
 use checked_runs::trace_in;
@@ -48,10 +48,10 @@ fn state_before(
     let fuel = trace.shape.fuel;
     let events = trace.events.as_slice();
     let shown = state_at(alloc, places, checked, shape, fuel, events, options.event)?;
-    Ok(Output {
-        status: status_at(options.event, shown.event),
-        bytes: Sequence::from_vec(shown.text),
-    })
+    Ok(output(
+        status_at(options.event, shown.event),
+        Sequence::from_vec(shown.text),
+    ))
 }
 
 /// That state, or the refusal of a number that is above the number of the document's events.

@@ -1,5 +1,7 @@
 ghost use Rattle.std.specs.Prelude.{◌≡◌};
-ghost use Rattle.view_top.specs.Status.{view_code};
+ghost use Rattle.view_top.specs.Status.{view_code, view_told};
+
+use program_outside::{EndStatus, Failure};
 
 /// How the program ended, as its exit code tells it.
 #[derive(Clone, Copy)]
@@ -26,5 +28,24 @@ impl ViewStatus {
         ensures { result ≡ view_code self }
     {
         self as u8
+    }
+}
+
+impl EndStatus for ViewStatus {
+    ghost told = { view_told };
+
+    ghost code_of = { view_code };
+
+    fn of(failure: Failure) -> ViewStatus {
+        match failure {
+            Failure::Usage => ViewStatus::Usage,
+            Failure::ReadFault => ViewStatus::ReadFault,
+            Failure::WriteFault => ViewStatus::WriteFault,
+            Failure::Memory => ViewStatus::Memory,
+        }
+    }
+
+    fn exit_code(&self) -> u8 {
+        self.code()
     }
 }

@@ -1,7 +1,7 @@
 use Rattle.std.proofs.Common.{map, string_bytes, ap}
 use Rattle.std.specs.Option.{option_map}
 use Rattle.command_words.specs.Command.{options_of}
-use Rattle.program_outside.specs.Outside.{devices}
+use Rattle.program_outside.specs.Outside.{devices_of}
 use Rattle.dn_top.specs.Runs.{with_one_worker}
 use Rattle.dn_top.proofs.Clauses.{serves-options}
 use Rattle.dn_top.proofs.answer_words.Goals as goal
@@ -10,7 +10,7 @@ pub returns-in-Ok : goal.returns-in-Ok
 returns-in-Ok g c =
     record {
       serves = serves-options (option_map with_one_worker (options_of (map string_bytes c.args.words.now))) (with_one_worker c.in-Ok.options)
-          (devices (g.S.Source.content c.args.source.now) (g.S.Source.faults c.args.source.now) (g.K.Sink.content c.args.sink.now) (g.K.Sink.flushed c.args.sink.now) (g.K.Sink.faults c.args.sink.now))
-          (devices (g.S.Source.content c.answer_alone.new.source) (g.S.Source.faults c.answer_alone.new.source) (g.K.Sink.content c.answer_alone.new.sink) (g.K.Sink.flushed c.answer_alone.new.sink) (g.K.Sink.faults c.answer_alone.new.sink))
+          (devices_of g.S.Source g.K.Sink c.args.source.now c.args.sink.now)
+          (devices_of g.S.Source g.K.Sink c.answer_alone.new.source c.answer_alone.new.sink)
           c.answer_alone.result (ap (option_map with_one_worker) c.in-Ok.ensures.taken) c.answer_alone.ensures.served c.answer_alone.ensures.few c.answer_alone.ensures.unread;
     }

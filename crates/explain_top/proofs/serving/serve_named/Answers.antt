@@ -10,8 +10,3 @@ returns-in-Ok g c =
       served = c.serve.ensures;
     })
 
-pub returns-in-Err-Failed : goal.returns-in-Err-Failed
-returns-in-Err-Failed g c = inr (inl (refl, (c.in-Err-Failed.ensures.failed c.in-Err-Failed.field-0-is, refl)))
-
-pub returns-in-Err-NoMemory : goal.returns-in-Err-NoMemory
-returns-in-Err-NoMemory g c = inr (inr (refl, (c.in-Err-NoMemory.ensures.memory c.in-Err-NoMemory.field-0-is, refl)))

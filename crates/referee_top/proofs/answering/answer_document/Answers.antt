@@ -3,9 +3,8 @@ use Rattle.claims.specs.declared.claim.GrantOrder.{GrantOrder}
 use Rattle.claims.specs.Alone.{IsOrderDocument}
 use Rattle.claims.specs.Right.{IsRightClaim}
 use Rattle.region_table.specs.Program.{ProgramParts}
-use Rattle.referee_top.specs.declared.answering.Reply.{Reply}
 use Rattle.referee_top.specs.declared.mode.RefereeMode as mode
-use Rattle.referee_top.specs.Answers.{IsOrdered, IsUnwritten, mode_done, refused_with}
+use Rattle.referee_top.specs.Answers.{Reply, IsOrdered, IsUnwritten, mode_done, refused_with}
 use Rattle.referee_top.proofs.Told.{told, ok-by, stop-by}
 use Rattle.referee_top.proofs.answering.answer_document.Goals as goal
 

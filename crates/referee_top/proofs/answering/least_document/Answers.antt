@@ -3,9 +3,8 @@ use Rattle.claims.specs.declared.claim.Question.{Question}
 use Rattle.claims.specs.Alone.{IsQuestionDocument}
 use Rattle.claims.specs.Right.{IsLeastClaim}
 use Rattle.region_table.specs.Program.{ProgramParts}
-use Rattle.referee_top.specs.declared.answering.Reply.{Reply}
 use Rattle.referee_top.specs.declared.mode.RefereeMode as mode
-use Rattle.referee_top.specs.Answers.{IsLeastReply, IsUnwritten, mode_done, refused_with}
+use Rattle.referee_top.specs.Answers.{Reply, IsLeastReply, IsUnwritten, mode_done, refused_with}
 use Rattle.referee_top.proofs.Told.{told, ok-by, stop-by}
 use Rattle.referee_top.proofs.answering.least_document.Goals as goal
 
