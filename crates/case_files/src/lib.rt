@@ -1,5 +1,5 @@
-//! The cases of the case files: what the program is given in each, what it has to answer, what may be wrong with a line, and the
-//! walk over all cases.
+//! The cases of the case files: what the program is given in each, what it has to answer, what may be wrong with a line, the walk over
+//! all cases, and the report of those that agree.
 #![tactic(auto)]
 
 mod agreement;

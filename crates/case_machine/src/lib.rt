@@ -18,4 +18,4 @@ pub use event_machine::EventMachine;
 pub use judging::judge;
 pub use playing::{Got, play};
 pub use replay::{TaskLoad, are_loads, is_same, replayed};
-pub use scripted::{Notes, Played, ScriptedRun, play};
+pub use scripted::{Notes, Played, ScriptedRun};

@@ -51,5 +51,5 @@ pub fn play(alloc: Global, case: &Case, script: &[ScriptLine]) -> Result<Got, St
         Ok(run) => run,
         Err(why) => return Err(Stop { place: 0, why }),
     };
-    Ok(answer(crate::play(run, script)?))
+    Ok(answer(crate::scripted::play(run, script)?))
 }

@@ -1,4 +1,5 @@
-//! What a run cost and why, in numbers: the items that its events count for, by what happened before.
+//! What a run cost and why, in numbers: the items that its events count for, by what happened before; the table of the numbers; and
+//! the table as text.
 #![tactic(auto)]
 
 mod accesses;

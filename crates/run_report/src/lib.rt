@@ -1,4 +1,4 @@
-//! The texts that the program prints, byte for byte.
+//! The texts that the program prints, byte for byte; and a text's way to its checked program, or to the line that refuses it.
 //!
 //! Every line ends with a newline. Hexadecimal numbers have `0x` and eight digits in lower case, and all others are
 //! decimal.

@@ -1,4 +1,5 @@
-//! A state of the machine as text: what each part holds, one fact a line, and which events may come.
+//! A state of the machine as text: what each part holds, one fact a line, which events may come, and why one may not. The state is
+//! that before an event of a document.
 //!
 //! Words, code words and locks have the names of the program's text. Every line ends with a newline.
 #![tactic(auto)]

@@ -1,6 +1,7 @@
-//! The pieces that printed texts are made of: bytes, and numbers in decimal digits or in eight hexadecimal digits.
+//! The pieces that printed texts are made of: bytes, and numbers in decimal digits or in eight hexadecimal digits; and parts of
+//! documents, which are also found at the beginning of some bytes.
 //!
-//! Each call appends its piece to a text. After an `Err` the text may have part of the piece, and the caller drops it.
+//! Each call that writes appends its piece to a text. After an `Err` the text may have part of the piece, and the caller drops it.
 #![tactic(auto)]
 
 mod base16;

@@ -1,5 +1,5 @@
 //! From which line of a source text the parts of its program come: code words, regions, data words, locks, phases and tasks, by
-//! the definition of the source language.
+//! the definition of the source language; and how sentences name these parts.
 #![tactic(auto)]
 
 mod laws;
