@@ -3,12 +3,10 @@
 #![tactic(auto)]
 
 mod command;
-mod given;
 mod options;
 mod reading;
 mod words;
 
-pub use given::{NO_WORDS, given_words};
 pub use options::{Mode, Options};
 pub use reading::read_words;
 pub use words::{
