@@ -1,7 +1,7 @@
 #!/usr/bin/env python3
 """Says which names in the documents are nowhere in the repository: run it at the top of the repository, `tools/check_documents.py`.
 
-Of README.md, docs/*.md, the README.md of each crate and of each folder of experiments/, examples/README.md and crates/worked_rows/data/README.md it looks at all that stands between backquotes, and at
+Of README.md, docs/*.md, the README.md of each crate, of each folder of experiments/, of examples/ and its folders, and of crates/worked_rows/data it looks at all that stands between backquotes, and at
 the commands of their indented blocks and of the comments in examples/:
 - a path has to be there, from the top, from crates/, or from the folder that the same line names;
 - a name of code (with a capital, or with `_` or `::`) has to be in the code, its contracts or its definitions;
@@ -14,8 +14,8 @@ the commands of their indented blocks and of the comments in examples/:
 - the page PROMISES lists the pages of all crates, by rooms and in the order of crates.txt;
 - no line of a table has more than 300 characters, no cell of one more than 40 words, and no page of a crate more than 40 lines. These
   limits hold for all pages of the repository.
-Each text of examples/ has to be the same as its copy in crates/worked_rows/data, which the cases run, and the text at the head of
-docs/LANGUAGE.md the same as that of the case language-page.
+Each text of examples/ has to be the same as its copy in crates/worked_rows/data, which the cases run, each of examples/litmus the same as
+that of its case in litmus.cases, and the text at the head of docs/LANGUAGE.md the same as that of the case language-page.
 It exits 0 where it found nothing, 1 otherwise."""
 import os
 import pathlib
@@ -30,7 +30,7 @@ names = {pathlib.PurePath(name).name for name in there} | {pathlib.PurePath(name
 code = "\n".join(pathlib.Path(name).read_text() for name in tracked
                  if name.endswith((".rt", ".antt", ".py", ".txt", ".cases", ".s")) or name.startswith(("bench/", "experiments/", ".ci/")) and not name.endswith((".svg", ".csv", ".md")))
 words = set(re.findall(r"[A-Za-z_]\w*(?:-\w+)*'?", code))
-documents = ["README.md", "examples/README.md", "crates/worked_rows/data/README.md"] + [
+documents = ["README.md", "crates/worked_rows/data/README.md"] + [n for n in tracked if re.fullmatch(r"examples/(?:[\w-]+/)?README\.md", n)] + [
     n for n in tracked if re.fullmatch(r"docs/\w+\.md|(?:crates|experiments)/[\w-]+/README\.md", n)]
 examples = sorted(n for n in tracked if re.fullmatch(r"examples/[\w-]+\.s", n))
 found = []
@@ -145,6 +145,12 @@ for name in examples:
     if not copy.exists() or copy.read_text() != pathlib.Path(name).read_text():
         found.append(f"{name}: differs from {copy}")
 cases = pathlib.Path("crates/worked_rows/data/examples.cases").read_text()
+litmus = pathlib.Path("crates/worked_rows/data/litmus.cases").read_text()
+copies = {name: re.sub(r"(?m)^  ", "", text) for name, text in re.findall(r"^case litmus-(\S+)\ntext\n((?:  .*\n)+)", litmus, re.M)}
+texts = {pathlib.PurePath(n).stem: pathlib.Path(n).read_text() for n in tracked if re.fullmatch(r"examples/litmus/[\w-]+\.s", n)}
+for name in sorted(copies.keys() | texts.keys()):
+    if copies.get(name) != texts.get(name):
+        found.append(f"examples/litmus/{name}.s: differs from the case litmus-{name}")
 case = re.search(r"case language-page\ntext\n((?:  .*\n)+)", cases)[1]
 page = re.search(r"\n\n((?:    .*\n)+)", pathlib.Path("docs/LANGUAGE.md").read_text())[1]
 if case != re.sub(r"(?m)^  ", "", page):

@@ -31,6 +31,7 @@ put: la t0, x
  ecall
 work: la t0, own
  add t0, t0, a0
+ addi t0, t0, 16
  li t2, 10
 more: lw t1, 0(t0)
  addi t1, t1, 3

@@ -33,8 +33,8 @@ put: la t0, x
  li a7, 0
  ecall
 work: la t0, own
- lw t1, 0(t0)
+ lw t1, 16(t0)
  add t1, t1, a0
- sw t1, 0(t0)
+ sw t1, 16(t0)
  li a7, 0
  ecall

@@ -1,7 +1,7 @@
 # One word more than a set has ways is stored to, in three rounds. A store of a round is lost, or the wrong word goes.
 # Caches of at most 4 ways of at most 256 bytes, where five words that far apart have one set.
 .version 2
-.region a, 257
+.region a, 272
 .region seen, 16
 .phase
 .task 0, rounds, 3

@@ -1,7 +1,7 @@
 # One word more than a set has ways is stored to, in three rounds. A store of a round is lost, or the wrong word goes.
 # Caches of at most 8 ways of at most 4,096 bytes, where nine words that far apart have one set.
 .version 2
-.region a, 8193
+.region a, 8208
 .region seen, 16
 .phase
 .task 0, rounds, 3

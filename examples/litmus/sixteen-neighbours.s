@@ -14,6 +14,10 @@
 .forall 0, 16, back, 0, 4
 .reads y
 .writes x, 0, 1, 1
+.phase
+.forall 0, 16, next, 0, 4
+.reads x
+.writes y, 0, 1, 1
 put: la t0, x
  add t0, t0, a0
  addi t1, a0, 4
