@@ -50,7 +50,7 @@ pub record IsSteady (fuel : ℕ) (r : Started) : Type 0 where
   pub within : IsWithin fuel r
   pub spent : EndsSpent fuel r.state
 
-fresh-steady : (fuel phase : ℕ) (d : TaskDecl) → IsSteady fuel (fresh phase d)
+pub fresh-steady : (fuel phase : ℕ) (d : TaskDecl) → IsSteady fuel (fresh phase d)
 fresh-steady fuel phase d = record { within = λ e. omega arith; spent = λ e. absurd (none-some cause.TheVariants.Fuel e) }
 
 open-spent : (fuel : ℕ) (t : TaskState) → t.end ≡ None → EndsSpent fuel t
@@ -97,7 +97,7 @@ pub record HasSettled (P : ProgramParts) (fuel : ℕ) (r : Started) : Type 0 whe
   pub rest : EndsSegment (wish P fuel r)
   pub steady : IsSteady fuel r
 
-segment-steady : (P : ProgramParts) (fuel : ℕ) (s : At) → IsSteady fuel s.task → IsSteady fuel (segment P fuel s).task
+pub segment-steady : (P : ProgramParts) (fuel : ℕ) (s : At) → IsSteady fuel s.task → IsSteady fuel (segment P fuel s).task
 unfolding segment
 segment-steady P fuel s h = steps-steady P fuel (suc fuel) s h
 
@@ -111,7 +111,7 @@ pub record IsResting (P : ProgramParts) (fuel : ℕ) (F : Flat) : Type 0 where
   pub past : All (λ (r : Started). has_finished r ≡ true) F.past
   pub tasks : All (HasSettled P fuel) F.tasks
 
-all-pass : {X : Type 0} (p : X → Bool) (xs : List X) → list_all p xs ≡ true → All (λ x. p x ≡ true) xs
+pub all-pass : {X : Type 0} (p : X → Bool) (xs : List X) → list_all p xs ≡ true → All (λ x. p x ≡ true) xs
 all-pass p xs e k d within = true_from_ne_false (p (get_or xs k d)) (λ fails. true≢false (sym e ∙ list_all_at p xs k d within fails))
 
 pub none-passes : {X : Type 0} (p : X → Bool) (xs : List X) → list_any p xs ≡ false → All (λ x. p x ≡ false) xs
@@ -163,7 +163,7 @@ acquire-advances (need.TheVariants.Release lock) k = absurd k
 acquire-advances (need.TheVariants.End by) k = absurd k
 
 -- a task that acquires the lock that it wants has had fuel for it
-acquired-steady : (P : ProgramParts) (fuel : ℕ) (r : Started) → WantsLock P fuel r → IsWithin fuel r → IsSteady fuel (in_state r (advanced P r.state))
+pub acquired-steady : (P : ProgramParts) (fuel : ℕ) (r : Started) → WantsLock P fuel r → IsWithin fuel r → IsSteady fuel (in_state r (advanced P r.state))
 acquired-steady P fuel r waits within =
     let n : Need = need_of P r.decl fuel r.state in
     let wanted : wish P fuel r ≡ Some n = ap (wish_unless P fuel r) waits.open' in
@@ -357,16 +357,20 @@ end-outcome : (P : ProgramParts) (fuel : ℕ) (F : Flat) → (flat_end_of P fuel
 unfolding flat_end_of
 end-outcome P fuel F = refl
 
+-- if all tasks of the last phase have ended, none is shown as waiting
+pub all-shown : (P : ProgramParts) (fuel : ℕ) (F : Flat) → IsResting P fuel F → All (λ (r : Started). is_none r.state.end ≡ false) F.tasks
+    → All (λ (t : TaskEnd). is_waiting t.end ≡ false) (map (task_end P fuel) (F.past ++ F.tasks))
+all-shown P fuel F h over =
+    let Shown : TaskEnd → Type 0 = λ t. is_waiting t.end ≡ false in
+    let Ends : Started → Type 0 = λ r. is_none r.state.end ≡ false in
+    let ended = All-append Ends F.past F.tasks (All-weaker (λ (r : Started). has_finished r ≡ true) Ends finished-ended F.past h.past) over in
+    All-map Shown (task_end P fuel) (F.past ++ F.tasks) (All-weaker Ends (λ (r : Started). Shown (task_end P fuel r)) (ended-shown P fuel) (F.past ++ F.tasks) ended)
+
 no-waiter : (P : ProgramParts) (fuel : ℕ) (F : Flat) → IsResting P fuel F → list_any (λ (r : Started). is_none r.state.end) F.tasks ≡ false
     → list_any (λ (t : TaskEnd). is_waiting t.end) (map (task_end P fuel) (F.past ++ F.tasks)) ≡ false
 no-waiter P fuel F h none =
-    let Shown : TaskEnd → Type 0 = λ t. is_waiting t.end ≡ false in
-    let Ends : Started → Type 0 = λ r. is_none r.state.end ≡ false in
-    let ended = All-append Ends F.past F.tasks
-    (All-weaker (λ (r : Started). has_finished r ≡ true) Ends finished-ended F.past h.past)
-    (none-passes (λ (r : Started). is_none r.state.end) F.tasks none) in
     list_any_none (λ (t : TaskEnd). is_waiting t.end) (map (task_end P fuel) (F.past ++ F.tasks))
-    (All-map Shown (task_end P fuel) (F.past ++ F.tasks) (All-weaker Ends (λ (r : Started). Shown (task_end P fuel r)) (ended-shown P fuel) (F.past ++ F.tasks) ended))
+    (all-shown P fuel F h (none-passes (λ (r : Started). is_none r.state.end) F.tasks none))
 
 no-end : (o : Option End) → is_none o ≡ true → o ≡ None
 no-end None e = refl

@@ -15,3 +15,5 @@ pub mod StartLaws
 pub mod LegalLaws
 pub mod LeastLaws
 pub mod RefusedLemmas
+pub mod LockOrderLaws
+pub mod MoreFuel

@@ -36,7 +36,7 @@ cond-some : {X : Type 0} (b : Bool) (o : Option X) (x : X) → (if b then o else
 cond-some true o x e = (refl, e)
 cond-some false o x e = absurd (none-some x e)
 
-some_within : {X : Type 0} (xs : List X) (i : ℕ) → slice_get xs i ≡ None → length xs ≤ i
+pub some_within : {X : Type 0} (xs : List X) (i : ℕ) → slice_get xs i ≡ None → length xs ≤ i
 some_within xs i none = grind (arith, common_steps, gets)
 
 -- the next phase and the phases behind it are those that are left

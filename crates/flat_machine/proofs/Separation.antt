@@ -94,21 +94,36 @@ pub record AreApart (P : ProgramParts) (p : Phase) (a b : Started) : Type 0 wher
   pub cores : a.decl.core.0 ≢ b.decl.core.0
   pub held : HoldApart a.state.held b.state.held
 
-no-word : (P : ProgramParts) (p : Phase) (a b : Started) (w : ℕ) → AreApart P p a b
-    → IsTrue (writes_plainly a.decl w) ⊎ IsGuarded a.decl a.state.held w → IsTrue (uses_plainly b.decl w) ⊎ IsGuarded b.decl b.state.held w → ⊥
-no-word P p a b w h (inl writes) (inl uses) = plain_words_apart p a.decl b.decl w (phase-checked P p h.checked h.phase) h.first h.second h.cores writes uses
-no-word P p a b w h (inl writes) (inr g) =
-    guarded_words_apart p b.decl a.decl g.lock w (phase-checked P p h.checked h.phase) h.second h.first g.guards (or_right (has a.decl.effects.reads w) (has a.decl.effects.writes w) writes)
-no-word P p a b w h (inr g) (inl uses) = guarded_words_apart p a.decl b.decl g.lock w (phase-checked P p h.checked h.phase) h.first h.second g.guards uses
-no-word P p a b w h (inr g) (inr k) =
-    let same = locks_apart p a.decl b.decl g.lock k.lock w (phase-checked P p h.checked h.phase) h.first h.second g.guards k.guards in
-    h.held g.lock g.holds (subst (λ (l : ℕ). is_held b.state.held l ≡ true) (sym same) k.holds)
+-- a lock that two tasks both hold
+pub record SharesLock (first second : ℕ) : Type 0 where
+  pub lock : ℕ
+  pub one : is_held first lock ≡ true
+  pub two : is_held second lock ≡ true
+
+shared-by : (P : ProgramParts) (p : Phase) (a b : TaskDecl) (held all w : ℕ) → IsChecked P → IsAmong P.phases p → IsAmong p.tasks a → IsAmong p.tasks b → a.core.0 ≢ b.core.0
+    → IsTrue (writes_plainly a w) ⊎ IsGuarded a held w → IsTrue (uses_plainly b w) ⊎ IsGuarded b all w → SharesLock held all
+shared-by P p a b held all w checked phase first second cores (inl writes) (inl uses) = absurd (plain_words_apart p a b w (phase-checked P p checked phase) first second cores writes uses)
+shared-by P p a b held all w checked phase first second cores (inl writes) (inr g) =
+    absurd (guarded_words_apart p b a g.lock w (phase-checked P p checked phase) second first g.guards (or_right (has a.effects.reads w) (has a.effects.writes w) writes))
+shared-by P p a b held all w checked phase first second cores (inr g) (inl uses) =
+    absurd (guarded_words_apart p a b g.lock w (phase-checked P p checked phase) first second g.guards uses)
+shared-by P p a b held all w checked phase first second cores (inr g) (inr k) =
+    let same = locks_apart p a b g.lock k.lock w (phase-checked P p checked phase) first second g.guards k.guards in
+    record { lock = g.lock; one = g.holds; two = subst (λ (l : ℕ). is_held all l ≡ true) (sym same) k.holds }
+
+-- what a task may store, and a task on another core may load, both may only with a lock that both hold
+pub shares-lock : (P : ProgramParts) (p : Phase) (a b : TaskDecl) (held all w : ℕ) → IsChecked P → IsAmong P.phases p → IsAmong p.tasks a → IsAmong p.tasks b → a.core.0 ≢ b.core.0
+    → may_store a held w ≡ true → may_load b all w ≡ true → SharesLock held all
+shares-lock P p a b held all w checked phase first second cores stores loads =
+    shared-by P p a b held all w checked phase first second cores (store-cases a held w stores) (load-cases b all w loads)
 
 pub keeps-out : (P : ProgramParts) (p : Phase) (a b : Started) → AreApart P p a b → KeepsOut a b
 keeps-out P p a b h =
     record {
       out = λ w e. not-true (may_load b.decl b.state.held w)
-          (λ f. no-word P p a b w h (store-cases a.decl a.state.held w e) (load-cases b.decl b.state.held w f));
+          (λ f.
+          let s = shares-lock P p a.decl b.decl a.state.held b.state.held w h.checked h.phase h.first h.second h.cores e f in
+          h.held s.lock s.one s.two);
     }
 
 pub in-either-order : (P : ProgramParts) (p : Phase) (fuel : ℕ) (a b : Started) (m : List ℕ) → AreApart P p a b → AreApart P p b a → length m ≡ length P.memory → SameInEitherOrder P fuel a b m

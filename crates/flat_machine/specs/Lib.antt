@@ -4,3 +4,4 @@ pub mod Grants
 pub mod Ending
 pub mod Laws
 pub mod Refused
+pub mod LockOrder

@@ -1,10 +1,10 @@
 //! Laws of segments and lists of grants, for proofs that compare other machines with the flat one.
 //! A law is a function without effect; its contract states the theorem.
-ghost use Rattle.std.specs.Prelude.{◌≡◌, ◌≢◌, ◌<◌, ◌↔◌, ℕ, List, [], ◌∷◌, ◌++◌, length, slice_get, slice_index, Some, None, true, false};
+ghost use Rattle.std.specs.Prelude.{◌≡◌, ◌≢◌, ◌<◌, ◌≤◌, ◌↔◌, ℕ, List, [], ◌∷◌, ◌++◌, length, slice_get, slice_index, Some, None, true, false};
 ghost use Rattle.std.specs.List.{All, AllPairs, Any, IsAmong};
 ghost use Rattle.dn_base.specs.declared.ids.Grant.{Grant};
 ghost use Rattle.dn_base.specs.declared.ids.LockId.{LockId};
-ghost use Rattle.dn_base.specs.declared.status.Outcome.TheVariants.{Fuel, Stuck};
+ghost use Rattle.dn_base.specs.declared.status.Outcome.TheVariants.{Done, Fuel, Stuck};
 ghost use Rattle.region_table.specs.Program.{ProgramParts, IsProgram};
 ghost use Rattle.region_table.specs.declared.declared.Phase.{Phase};
 ghost use Rattle.rv_core.specs.Access.{may_load, may_store};
@@ -17,6 +17,7 @@ ghost use Rattle.flat_machine.specs.Phases.{Flat, has_finished, settled, initial
 ghost use Rattle.flat_machine.specs.Grants.{is_free, grant_of, go_on, with_task, so_far, grants_are_whole, granted, granted_if, IsLeast};
 ghost use Rattle.rv_core.specs.Ending.{is_waiting};
 ghost use Rattle.flat_machine.specs.Ending.{flat_end_of, flat_end};
+ghost use Rattle.flat_machine.specs.LockOrder.{IsLockOrder};
 ghost use Rattle.flat_machine.specs.Laws.{at_memory, EndsSegment, AgreeOn, IsAlike, HoldsLess, IsLater, HoldApart, SameInEitherOrder, HasUsedUp, IsOutOfFuel, IsHeldUp, HasTasks, HasFront, StartAlone, IsEnded, IsLegal};
 
 /// A segment changes only words that its task may store with the locks that it holds at the start. It acquires no lock.
@@ -143,4 +144,20 @@ pub fn a_task_that_waits_wants_a_held_lock()
         → Any (λ (t : TaskEnd). is_waiting t.end ≡ true) e.ending.tasks }
     ensures waiter { (P : ProgramParts) (fuel : ℕ) (gs : List Grant) (F : Flat) → so_far P fuel gs ≡ Some F → (flat_end_of P fuel F).ending.outcome ≡ Stuck
         → Any (λ (r : Started). r.state.end ≡ None) F.tasks }
+{}
+
+/// If the locks have an order in which the tasks of each phase take them, and no task ends while it holds one, then no whole
+/// list of grants leaves a task waiting, and no run is stuck.
+pub fn no_task_waits_if_locks_are_taken_in_order()
+    ensures waits { (P : ProgramParts) (fuel : ℕ) (rank : ℕ → ℕ → ℕ) (gs : List Grant) (e : FlatEnd) → IsLockOrder P fuel rank → flat_end P fuel gs ≡ Some e
+        → All (λ (t : TaskEnd). is_waiting t.end ≡ false) e.ending.tasks }
+    ensures stuck { (P : ProgramParts) (fuel : ℕ) (rank : ℕ → ℕ → ℕ) (gs : List Grant) (e : FlatEnd) → IsLockOrder P fuel rank → flat_end P fuel gs ≡ Some e
+        → e.ending.outcome ≢ Stuck }
+{}
+
+/// A run that is done with some fuel is the same with more fuel: the same grants are whole, and lead to the same loads and the
+/// same ending.
+pub fn more_fuel_changes_no_run_that_is_done()
+    ensures { (P : ProgramParts) (fuel more : ℕ) (gs : List Grant) (e : FlatEnd) → fuel ≤ more → flat_end P fuel gs ≡ Some e → e.ending.outcome ≡ Done
+        → flat_end P more gs ≡ Some e }
 {}
