@@ -29,7 +29,7 @@ use Rattle.dn_machine.specs.declared.record.RunRecord.{RunRecord}
 use Rattle.checked_runs.specs.Causes.{IsCaused}
 use Rattle.checked_runs.specs.Runs.{reported, summed_up}
 use Rattle.dn_top.specs.Runs.{IsAnyRunFor, IsRunFor, IsPrintedRun, IsTimedRun}
-use Rattle.checked_runs.specs.Documents.{HasTrace, IsNoDocument, IsNoRun}
+use Rattle.checked_runs.specs.Documents.{HasTrace, IsRefusedDocument}
 use Rattle.dn_top.specs.Documents.{IsTracedRun, IsReplayedRun}
 
 -- ---- what is done with a program
