@@ -41,7 +41,7 @@ there S core test may = by_node (slice_get S.nodes core) refl may where
   by_node None is may = absurd (cc)
   by_node (Some n) is may = record { node = n; found = is; passes = may }
 
-instr-there : (S : State) (core : CoreId) → enabled S (Instr core) ≡ true → IsThere S core.0 (may_instr S.setting)
+pub instr-there : (S : State) (core : CoreId) → enabled S (Instr core) ≡ true → IsThere S core.0 (may_instr S.setting)
 unfolding enabled
 instr-there S core may = there S core.0 (may_instr S.setting) may
 
@@ -62,7 +62,7 @@ pub record Instructed (S : State) (core : CoreId) (n : NodeParts) (r : NodeParts
   pub granted : granted_in S (Instr core) ≡ None
   pub store : store_in S (Instr core) ≡ written_now S.setting n
 
-instructed-row : (S : State) (core : CoreId) (n : NodeParts) (r : NodeParts × Step) → slice_get S.nodes core.0 ≡ Some n → instructed S.setting n ≡ r → Instructed S core n r
+pub instructed-row : (S : State) (core : CoreId) (n : NodeParts) (r : NodeParts × Step) → slice_get S.nodes core.0 ≡ Some n → instructed S.setting n ≡ r → Instructed S core n r
 unfolding seen_in granted_in store_in
 instructed-row S core n r found is =
     record {
@@ -82,14 +82,14 @@ same-memory : (S : State) (M : ℕ → ℕ) (e : Event) (G : (ℕ → ℕ) → T
 same-memory S M e G none good = subst (λ (o : Option (WordId × ℕ)). G (stored_to o M)) (sym none) good
 
 -- the node, and what it needs next
-record Going (S : State) (core : CoreId) (n : NodeParts) (d : TaskDecl) (t : TaskState) (x : Need) : Type 0 where
-  acts : IsActing S core n d t x
-  now : need_now S.setting n ≡ Some x
-  allows : lets n (Some x) ≡ true
-  row : instructed S.setting n ≡ instr_row S.setting n d t x
-  mine : me n ≡ core
+pub record Going (S : State) (core : CoreId) (n : NodeParts) (d : TaskDecl) (t : TaskState) (x : Need) : Type 0 where
+  pub acts : IsActing S core n d t x
+  pub now : need_now S.setting n ≡ Some x
+  pub allows : lets n (Some x) ≡ true
+  pub row : instructed S.setting n ≡ instr_row S.setting n d t x
+  pub mine : me n ≡ core
 
-going : (S : State) (core : CoreId) (n : NodeParts) → slice_get S.nodes core.0 ≡ Some n → n.core ≡ core.0 → (i : MayInstruct S.setting n) → Going S core n i.decl i.task i.needs
+pub going : (S : State) (core : CoreId) (n : NodeParts) → slice_get S.nodes core.0 ≡ Some n → n.core ≡ core.0 → (i : MayInstruct S.setting n) → Going S core n i.decl i.task i.needs
 going S core n found own i =
     record {
       acts = record {

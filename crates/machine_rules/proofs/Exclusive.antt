@@ -53,7 +53,7 @@ holds-one S c n d t l g h held =
     let one : bit (has_lock S c l) ≡ 1 = rw (h.found, h.task, held) refl in
     omega (arith, one, g.row l c)
 
-one-holder : (o : Option Lock) (c d : ℕ) → 1 ≤ holder_in c o → 1 ≤ holder_in d o → c ≡ d
+pub one-holder : (o : Option Lock) (c d : ℕ) → 1 ≤ holder_in c o → 1 ≤ holder_in d o → c ≡ d
 one-holder None c d first second = absurd (omega (arith, first))
 one-holder (Some h) c d first second = by_holder h.holder first second where
   by_holder : (o : Option CoreId) → 1 ≤ holder_count c o → 1 ≤ holder_count d o → c ≡ d

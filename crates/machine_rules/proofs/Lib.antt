@@ -81,5 +81,10 @@ mod PlainOutcomes
 mod LastTasks
 pub mod NoPhases
 pub mod BoundRuns
+mod AccessMade
+mod TasksMove
+mod ReadOff
+pub mod InProgramOrder
+pub mod RaceFree
 pub mod Reordered
 pub mod ReorderedCoherent

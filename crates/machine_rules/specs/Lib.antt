@@ -8,3 +8,6 @@ pub mod Sound
 pub mod Rest
 pub mod Bound
 pub mod Reordered
+pub mod Accesses
+pub mod Consistent
+pub mod Racing

@@ -12,6 +12,9 @@ ghost use Rattle.machine_rules.specs.Bound.{retired_in, started_in};
 ghost use Rattle.machine_rules.specs.Coherent.{Coherent};
 ghost use Rattle.machine_rules.specs.Rest.{IsAtRest};
 ghost use Rattle.machine_rules.specs.Sound.{IsReady, IsSound};
+ghost use Rattle.machine_rules.specs.Accesses.{accesses_of, actions_of};
+ghost use Rattle.machine_rules.specs.Consistent.{IsSequentialOrder};
+ghost use Rattle.machine_rules.specs.Racing.{IsRaceFree};
 ghost use Rattle.machine_rules.specs.Reordered.{IsReordered, GoOnAlike};
 
 /// A sound state stays sound by every event that may come, whatever the messages in flight are.
@@ -40,6 +43,18 @@ pub fn each_load_reads_the_stores_before_it()
     ensures { (C : Setting) (events : List Event) (e : Event) (seen : LoadSeen) → IsReady C → IsRun (initial_state C) events
         → enabled (after (initial_state C) events) e ≡ true → seen_in (after (initial_state C) events) e ≡ Some seen
         → seen.value ≡ slice_index (memory_after C.program.memory (initial_state C) events) seen.word.0 }
+{}
+
+/// Every run is sequentially consistent. The order in which its accesses retire is one in which those of each core stand in the
+/// order of its program, and each reads what the last store to its word before it has written, or the program's memory.
+pub fn every_run_is_sequentially_consistent()
+    ensures { (C : Setting) (events : List Event) → IsReady C → IsRun (initial_state C) events
+        → IsSequentialOrder C.program.memory (accesses_of (initial_state C) events) (accesses_of (initial_state C) events) }
+{}
+
+/// No run has a data race: if accesses of two cores conflict, a barrier or a lock that is handed on is between them.
+pub fn no_run_has_a_data_race()
+    ensures { (C : Setting) (events : List Event) → IsReady C → IsRun (initial_state C) events → IsRaceFree (actions_of (initial_state C) events) }
 {}
 
 /// If no event may come any more, all nodes are halted; or some task of the phase hasn't ended, and each such task waits for a
