@@ -9,7 +9,7 @@ use crate::command::text_name;
 use crate::texts::Texts;
 use command_words::WordsFault;
 use dn_base::{MOST_OF_TEXT, Memory, Sequence, Sink, Source, Status};
-use program_outside::{Answers, refuse_words, serve, unread};
+use program_outside::{Answers, ReadError, refuse_words, serve};
 use std::alloc::Global;
 
 /// The program explain: from a text and the answer that denovo printed for it to the answer explained.
@@ -42,7 +42,8 @@ fn serve_named<T: Texts, S: Source, K: Sink>(
 {
     match texts.read(alloc, name, MOST_OF_TEXT + 1) {
         Ok(text) => serve::<Explain, S, K>(alloc, &Sequence::from_vec(text), source, sink),
-        Err(error) => unread(error),
+        Err(ReadError::Failed) => Status::ReadFault,
+        Err(ReadError::NoMemory) => Status::Memory,
     }
 }
 
