@@ -1,8 +1,9 @@
 #!/usr/bin/env python3
 """Says which names in the documents are nowhere in the repository: run it at the top of the repository, `tools/check_documents.py`.
 
-Of README.md, docs/*.md, the README.md of each crate, of each folder of experiments/, of examples/ and its folders, and of crates/worked_rows/data it looks at all that stands between backquotes, and at
-the commands of their indented blocks and of the comments in examples/:
+Of README.md, CONTRIBUTING.md, CHANGELOG.md, docs/*.md, the README.md of each crate, of each folder of experiments/, of examples/ and its
+folders, and those of bench/, tools/editors/ and crates/worked_rows/data/ it looks at all that stands between backquotes, and at the commands
+of their indented blocks and of the comments in examples/:
 - a path has to be there, from the top, from crates/, or from the folder that the same line names;
 - a name of code (with a capital, or with `_` or `::`) has to be in the code, its contracts or its definitions;
 - a command `./denovo ..` has to read a text that is there;
@@ -14,14 +15,19 @@ the commands of their indented blocks and of the comments in examples/:
 - the page PROMISES lists the pages of all crates, by rooms and in the order of crates.txt;
 - no line of a table has more than 300 characters, no cell of one more than 40 words, and no page of a crate more than 40 lines. These
   limits hold for all pages of the repository.
-Each text of examples/ has to be the same as its copy in crates/worked_rows/data, which the cases run, each of examples/litmus the same as
-that of its case in litmus.cases, and the text at the head of docs/LANGUAGE.md the same as that of the case language-page.
+The syntax files of tools/editors/ have to have each word of docs/LANGUAGE.md. Each text of examples/ has to be the same as its copy in
+crates/worked_rows/data, which the cases run, each of examples/litmus the same as that of its case in litmus.cases, and the text at the head of
+docs/LANGUAGE.md the same as that of the case language-page.
 It exits 0 where it found nothing, 1 otherwise."""
 import os
 import pathlib
 import re
 import subprocess
 import sys
+
+sys.dont_write_bytecode = True
+sys.path.insert(0, str(pathlib.Path(__file__).resolve().parent / "editors"))
+from check_syntax import lacking_words  # noqa: E402
 
 tracked = [name for name in subprocess.run(["git", "ls-files"], capture_output=True, text=True).stdout.split("\n") if name]
 folders = {str(parent) for name in tracked for parent in pathlib.PurePath(name).parents}
@@ -30,7 +36,8 @@ names = {pathlib.PurePath(name).name for name in there} | {pathlib.PurePath(name
 code = "\n".join(pathlib.Path(name).read_text() for name in tracked
                  if name.endswith((".rt", ".antt", ".py", ".txt", ".cases", ".s")) or name.startswith(("bench/", "experiments/", ".ci/")) and not name.endswith((".svg", ".csv", ".md")))
 words = set(re.findall(r"[A-Za-z_]\w*(?:-\w+)*'?", code))
-documents = ["README.md", "crates/worked_rows/data/README.md"] + [n for n in tracked if re.fullmatch(r"examples/(?:[\w-]+/)?README\.md", n)] + [
+documents = ["README.md", "CONTRIBUTING.md", "CHANGELOG.md", "bench/README.md", "tools/editors/README.md",
+             "crates/worked_rows/data/README.md"] + [n for n in tracked if re.fullmatch(r"examples/(?:[\w-]+/)?README\.md", n)] + [
     n for n in tracked if re.fullmatch(r"docs/\w+\.md|(?:crates|experiments)/[\w-]+/README\.md", n)]
 examples = sorted(n for n in tracked if re.fullmatch(r"examples/[\w-]+\.s", n))
 found = []
@@ -155,6 +162,7 @@ case = re.search(r"case language-page\ntext\n((?:  .*\n)+)", cases)[1]
 page = re.search(r"\n\n((?:    .*\n)+)", pathlib.Path("docs/LANGUAGE.md").read_text())[1]
 if case != re.sub(r"(?m)^  ", "", page):
     found.append("docs/LANGUAGE.md: its text differs from the case language-page")
+found += lacking_words()
 for line in found:
     print(line)
 sys.exit(1 if found else 0)
