@@ -11,7 +11,7 @@ is Modified elsewhere is fetched from there. An evicted Modified line goes home 
 of a word that is in it waits. Messages are in flight, and come in any order. How a text is read and what an instruction does is
 tools/reference.py's; the rest is here.
 
---bug switches one of twelve bugs on; each stands in the code behind `self.bug ==`. README.md in this folder says which texts find it.
+--bug switches one of twelve bugs on; they stand in the code where `self.bug` is asked. README.md in this folder says which texts find which.
 
 The exit code is 0 where a claim was written, 1 where the words aren't these, and 2 where the text has no program that could be run.
 """
