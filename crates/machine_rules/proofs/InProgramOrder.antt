@@ -15,7 +15,7 @@ use Rattle.machine_rules.specs.Memory.{store_in}
 use Rattle.machine_rules.specs.Runs.{after, IsRun}
 use Rattle.machine_rules.specs.Sound.{IsSound, IsReady}
 use Rattle.machine_rules.specs.Accesses.{Access, access_in, accesses_of}
-use Rattle.machine_rules.specs.Consistent.{written_to, last_stored, value_after, IsBefore, KeepsProgramOrder, ReadsLastStores, IsSequentialOrder}
+use Rattle.machine_rules.specs.Consistent.{written_to, last_stored, word_after, PrecedesInProgram, KeepsProgramOrder, ReadsLastStores, IsSequentialOrder}
 use Rattle.machine_rules.proofs.Invariant.{Invariant}
 use Rattle.machine_rules.proofs.Outcomes.{stored_to}
 use Rattle.machine_rules.proofs.SoundEvents.{sound-next}
@@ -62,11 +62,11 @@ still-ordered S T moved accesses rest =
 first-ordered : (S : State) (M : ℕ → ℕ) (e : Event) (a : Access) (accesses : List Access) → IsMade S M e a → AreOrdered (next S e) accesses → AreOrdered S accesses → AreOrdered S (a ∷ accesses)
 first-ordered S M e a accesses made later rest =
     record {
-      pairs = AllPairs-cons (λ (x y : Access). x.core ≡ y.core → IsBefore x y) a accesses (λ i d within core. before (get_or accesses i d) (later.from a.core made.later made.now i d within core)) rest.pairs;
+      pairs = AllPairs-cons (λ (x y : Access). x.core ≡ y.core → PrecedesInProgram x y) a accesses (λ i d within core. before (get_or accesses i d) (later.from a.core made.later made.now i d within core)) rest.pairs;
       from = λ c n found. All-cons (λ (x : Access). c ≡ x.core → IsFrom n x) a accesses (here c n found) (rest.from c n found);
     }
   where
-    before : (b : Access) → IsFrom made.later b → IsBefore a b
+    before : (b : Access) → IsFrom made.later b → PrecedesInProgram a b
     before b (inl from) = inl (omega (arith, from, made.stays, made.phase))
     before b (inr from) = inr (made.phase ∙ (sym made.stays ∙ from.0), omega (arith, from.1, made.retires))
 
@@ -132,7 +132,7 @@ reads-last C events ready run before rest a value is reads =
     let inv = opened-invariant C ready.context ready.program ready.checked in
     let here = run-kept S (first_memory C) 0 s.past sound inv parts.0 in
     let made = (access-told (after S s.past) (memory_over (first_memory C) S s.past) s.event here.1 parts.1).made a s.told in
-    made.reads value reads ∙ (last-stores S (first_memory C) 0 s.past a.word sound inv parts.0 ∙ ap (λ (xs : List Access). value_after C.program.memory xs a.word) s.front)
+    made.reads value reads ∙ (last-stores S (first_memory C) 0 s.past a.word sound inv parts.0 ∙ ap (λ (xs : List Access). word_after C.program.memory xs a.word) s.front)
 
 pub run-sequential : (C : Setting) (events : List Event) → IsReady C → IsRun (initial_state C) events
     → IsSequentialOrder C.program.memory (accesses_of (initial_state C) events) (accesses_of (initial_state C) events)

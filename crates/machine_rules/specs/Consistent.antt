@@ -16,22 +16,22 @@ last_stored w [] = None
 last_stored w (a ∷ later) = option_or (last_stored w later) (written_to w a)
 
 -- the value of a word after some accesses: that of the last store to it, or else its value in the first memory
-abbrev pub value_after : List ℕ → List Access → ℕ → ℕ
-value_after first before w = unwrap_or (last_stored w before) (slice_index first w)
+abbrev pub word_after : List ℕ → List Access → ℕ → ℕ
+word_after first before w = unwrap_or (last_stored w before) (slice_index first w)
 
 -- a core's program has the first access before the second: its task is of an earlier phase, or it is the same task and the
 -- place is lower
-abbrev pub IsBefore : Access → Access → Type 0
-IsBefore a b = (a.phase < b.phase) ⊎ ((a.phase ≡ b.phase) × (a.place < b.place))
+abbrev pub PrecedesInProgram : Access → Access → Type 0
+PrecedesInProgram a b = (a.phase < b.phase) ⊎ ((a.phase ≡ b.phase) × (a.place < b.place))
 
 -- the accesses of each core stand in the order of its program
 abbrev pub KeepsProgramOrder : List Access → Type 0
-KeepsProgramOrder order = AllPairs (λ (a b : Access). a.core ≡ b.core → IsBefore a b) order
+KeepsProgramOrder order = AllPairs (λ (a b : Access). a.core ≡ b.core → PrecedesInProgram a b) order
 
 -- each access that reads reads what the last store to its word before it has written
 abbrev pub ReadsLastStores : List ℕ → List Access → Type 0
 ReadsLastStores first order =
-    (before after : List Access) (a : Access) (value : ℕ) → order ≡ before ++ a ∷ after → a.read ≡ Some value → value ≡ value_after first before a.word
+    (before after : List Access) (a : Access) (value : ℕ) → order ≡ before ++ a ∷ after → a.read ≡ Some value → value ≡ word_after first before a.word
 
 -- an order of the accesses, on a memory that has these words first
 pub record IsSequentialOrder (first : List ℕ) (accesses order : List Access) : Type 0 where
