@@ -26,7 +26,7 @@ pub fn explain_given<T: Texts, S: Source, K: Sink>(
         × IsWithoutWords (devices_of S.Source K.Sink source.old sink.old) (devices_of S.Source K.Sink source.new sink.new) result }
     ensures words { IfOk given (λ words. HasEnded exit_code_of
         (Serves (name_in (map string_bytes words.items)) (texts_of T.Texts texts.old) (texts_of T.Texts texts.new)
-            (devices_of S.Source K.Sink source.old sink.old) (devices_of S.Source K.Sink source.new sink.new)) result) }
+        (devices_of S.Source K.Sink source.old sink.old) (devices_of S.Source K.Sink source.new sink.new)) result) }
     ensures code { IsExitCode exit_code_of result }
 {
     match given {
@@ -46,5 +46,11 @@ pub fn explain_program<R: Env + Files + Input + Print + AllocGlobal>(rt: &R) -> 
     let mut files = HostFiles::new(rt);
     let mut source = StdSource::new(rt.reader());
     let mut sink = StdSink::new(io::writer(rt));
-    explain_given(rt.alloc(), given_words(rt), &mut files, &mut source, &mut sink)
+    explain_given(
+        rt.alloc(),
+        given_words(rt),
+        &mut files,
+        &mut source,
+        &mut sink,
+    )
 }
