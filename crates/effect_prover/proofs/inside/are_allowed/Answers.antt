@@ -14,5 +14,5 @@ returns-clause-answer c =
     let words = length c.args.program.now.memory in
     IfOk-weaker c.are_usable.result _ (λ allowed. Decides allowed (AreAllowed (may_use c.args.access c.args.task.now c.args.held) words c.args.width c.args.range))
     (λ allowed decided. allowed-some c.args.access c.args.task.now c.args.held words c.args.width c.args.range c.first_from-first.result c.last_up_to-last.result allowed
-    c.last_up_to-last.ensures c.first_from-first.ensures.first c.first_from-first.ensures.within c.if-first-lt-DATA.false (omega arith) decided)
+    c.last_up_to-last.ensures c.first_from-first.ensures.first c.first_from-first.ensures.within c.if-first-lt-FIRST_DATA_ADDRESS.false (omega arith) decided)
     c.are_usable.ensures.answer
