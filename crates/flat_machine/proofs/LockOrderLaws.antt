@@ -1,7 +1,6 @@
 -- Where tasks take locks in an order, the wanted locks would rise without end if a task waited.
-use Rattle.std.proofs.Common.{◌≡◌, ◌≢◌, ◌⊎◌, ℕ, zero, suc, ◌+◌, ◌<◌, ◌≤◌, nat_lt, Bool, true, false, List, length, get_or, map, slice_get, Option, Some, None, is_none, refl, sym, ap, ◌∙◌, subst, arith}
+use Rattle.std.proofs.Common.{◌≡◌, ◌≢◌, ℕ, zero, suc, ◌+◌, ◌<◌, ◌≤◌, nat_lt, Bool, true, false, List, length, get_or, slice_get, Option, Some, None, is_none, refl, sym, ap, ◌∙◌, subst, arith}
 use Rattle.std.specs.List.{All}
-use Rattle.std.proofs.lemmas.Bool.{true≢false, false≢true}
 use Rattle.std.proofs.lemmas.Bool.Decides.{nat_tests}
 use Rattle.std.proofs.lemmas.Option.{slice_get-get_or, slice_get_within, get_or_from_slice_get}
 use Rattle.dn_base.specs.declared.ids.Grant.{Grant}
@@ -9,7 +8,6 @@ use Rattle.dn_base.specs.declared.ids.LockId.{LockId}
 use Rattle.dn_base.specs.declared.status.Outcome as outcome
 use Rattle.region_table.specs.Program.{ProgramParts}
 use Rattle.rv_core.specs.declared.task.End.{End}
-use Rattle.rv_core.specs.declared.need.Need.{Need}
 use Rattle.rv_core.specs.declared.need.Need as need
 use Rattle.rv_core.specs.declared.ending.TaskEnd.{TaskEnd}
 use Rattle.rv_core.specs.Access.{is_held}

@@ -1,5 +1,5 @@
 -- A run in which no task runs out of fuel is the same with more fuel.
-use Rattle.std.proofs.Common.{◌≡◌, ◌≢◌, ℕ, zero, suc, ◌+◌, ◌<◌, ◌≤◌, ◌==◌, nat_lt, not, Bool, true, false, cond, if◌then◌else◌, List, [], ◌∷◌, ◌++◌, length, drop, get_or, map, position, slice_get, slice_set, Option, Some, None, is_none, refl, sym, ap, ◌∙◌, subst, arith}
+use Rattle.std.proofs.Common.{◌≡◌, ◌≢◌, ℕ, zero, suc, ◌+◌, ◌<◌, ◌≤◌, ◌==◌, nat_lt, not, Bool, true, false, cond, if◌then◌else◌, List, [], ◌∷◌, ◌++◌, length, drop, get_or, map, position, slice_get, Option, Some, None, is_none, refl, sym, ap, ◌∙◌, subst, arith}
 use Rattle.std.specs.Option.{option_or}
 use Rattle.std.specs.List.{All, list_all, list_any, position_or_len}
 use Rattle.std.proofs.lemmas.Bool.{true≢false, false≢true}
@@ -25,16 +25,15 @@ use Rattle.rv_core.specs.Ending.{is_waiting, is_trapped, is_spent, outcome_of, e
 use Rattle.rv_core.specs.Kinds.{EndsByFuel}
 use Rattle.rv_core.specs.Need.{need_of, fetch_need}
 use Rattle.rv_core.specs.Step.{advanced}
-use Rattle.rv_core.specs.Task.{stopped}
 use Rattle.rv_core.proofs.Completions.{stopped-end}
 use Rattle.rv_core.proofs.Needs.{need-fuel}
 use Rattle.flat_machine.specs.declared.ending.FlatEnd.{FlatEnd}
 use Rattle.flat_machine.specs.Step.{Started, At, fresh, wish, wish_unless, in_state, step_by, flat_step, flat_steps, segment, IsWithin, WantsLock}
-use Rattle.flat_machine.specs.Phases.{Flat, Ran, ran_first, run_all, begin_with, begin, finished_by, has_finished, settle, settled, initial, initial_flat}
-use Rattle.flat_machine.specs.Grants.{grant_by, grant_for, is_grant, can_take, go_on, with_task, resumed, granted_at, granted, granted_if, grants_from, so_far, first_grant, next_grant, grants_are_whole}
+use Rattle.flat_machine.specs.Phases.{Flat, ran_first, run_all, begin_with, begin, finished_by, has_finished, settle, settled, initial, initial_flat}
+use Rattle.flat_machine.specs.Grants.{grant_by, grant_for, is_grant, can_take, go_on, with_task, resumed, granted_at, granted, grants_from, so_far, first_grant, next_grant, grants_are_whole}
 use Rattle.flat_machine.specs.Ending.{wait_shown, shown_of, task_end, flat_loads_of, flat_end_of, flat_end}
 use Rattle.flat_machine.specs.Laws.{EndsSegment}
-use Rattle.flat_machine.proofs.Rest.{rest-still, segment-rest, segment-step, wish-open}
+use Rattle.flat_machine.proofs.Rest.{rest-still, segment-rest, segment-step}
 use Rattle.flat_machine.proofs.StepLemmas.{steps-still}
 use Rattle.flat_machine.proofs.PhaseLemmas.{some_within}
 use Rattle.flat_machine.proofs.SegmentLaws.{segment-still}

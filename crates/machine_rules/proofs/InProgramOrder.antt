@@ -1,6 +1,6 @@
 -- Every run is sequentially consistent, in the order in which its accesses retire.
-use Rattle.std.proofs.Common.{◌≡◌, ◌⊎◌, inl, inr, ℕ, ◌+◌, ◌<◌, ◌≤◌, List, [], ◌∷◌, ◌++◌, get_or, slice_get, slice_index, Option, Some, None, unwrap_or, refl, sym, ap, subst, ◌∙◌, arith}
-use Rattle.std.specs.List.{All, AllPairs}
+use Rattle.std.proofs.Common.{◌≡◌, ◌⊎◌, inl, inr, ℕ, ◌+◌, ◌<◌, ◌≤◌, List, [], ◌∷◌, get_or, slice_get, Option, Some, None, unwrap_or, refl, sym, ap, subst, ◌∙◌, arith}
+use Rattle.std.specs.List.{All}
 use Rattle.std.specs.Option.{option_or}
 use Rattle.std.proofs.lemmas.Option.{same_Some}
 use Rattle.std.proofs.lemmas.List.Elements.{All-cons, All-nil}
@@ -25,8 +25,8 @@ use Rattle.machine_rules.proofs.OpenedInvariant.{opened-invariant}
 use Rattle.machine_rules.proofs.RunsKept.{memory_over, run-kept}
 use Rattle.machine_rules.proofs.RunsCoherent.{first_memory}
 use Rattle.machine_rules.proofs.AccessMade.{IsMade, value_with, access-told}
-use Rattle.machine_rules.proofs.TasksMove.{IsOn, Moves, moves}
-use Rattle.machine_rules.proofs.ReadOff.{read-none, read-some, IsSplit, split, run-front}
+use Rattle.machine_rules.proofs.TasksMove.{IsOn, moves}
+use Rattle.machine_rules.proofs.ReadOff.{read-none, read-some, split, run-front}
 
 -- ---- each core's accesses stand in the order of its program
 

@@ -1,5 +1,5 @@
 -- No run of a checked program has a data race: accesses that conflict have a barrier between them, or a lock that is handed on.
-use Rattle.std.proofs.Common.{◌≡◌, ◌≢◌, ◌⊎◌, inl, inr, ℕ, suc, ◌+◌, ◌<◌, ◌≤◌, nat_lt, Bool, true, false, List, [], ◌∷◌, ◌++◌, length, slice_get, Option, Some, None, refl, sym, ap, subst, ◌∙◌, arith}
+use Rattle.std.proofs.Common.{◌≡◌, ◌≢◌, ◌⊎◌, inl, inr, ℕ, suc, ◌+◌, ◌<◌, ◌≤◌, nat_lt, Bool, true, false, List, [], ◌∷◌, ◌++◌, length, Option, Some, None, refl, sym, ap, subst, ◌∙◌, arith}
 use Rattle.std.specs.List.{IsAmong}
 use Rattle.std.proofs.lemmas.Bool.Decides.{nat_tests}
 use Rattle.std.proofs.lemmas.Option.{none-some}
@@ -9,12 +9,12 @@ use Rattle.region_table.specs.Tasks.{declared}
 use Rattle.region_table.specs.declared.declared.Phase.{Phase}
 use Rattle.region_table.proofs.TaskLemmas.{declared-tells}
 use Rattle.rv_core.specs.declared.task.TaskState.{TaskState}
-use Rattle.rv_core.specs.Access.{is_held, may_load, may_store}
+use Rattle.rv_core.specs.Access.{is_held, may_load}
 use Rattle.flat_machine.proofs.Rights.{both-ways}
 use Rattle.flat_machine.proofs.Separation.{SharesLock, shares-lock}
 use Rattle.message_net.specs.declared.event.Event.{Event}
 use Rattle.message_net.specs.declared.event.Event.TheVariants.{Instr, Evict, Arrive, Handle}
-use Rattle.registration_protocol.specs.Node.{NodeParts, Setting}
+use Rattle.registration_protocol.specs.Node.{Setting}
 use Rattle.registration_protocol.specs.Parts.{held_locks}
 use Rattle.machine_rules.specs.State.{State, initial_state, lock_at}
 use Rattle.machine_rules.specs.Next.{next, enabled, granted_in}
@@ -37,7 +37,7 @@ use Rattle.machine_rules.proofs.RunsCoherent.{first_memory}
 use Rattle.machine_rules.proofs.PhasesOn.{goes-on, keeper-on}
 use Rattle.machine_rules.proofs.AccessMade.{IsMade, access-told}
 use Rattle.machine_rules.proofs.TasksMove.{IsGranted, moves}
-use Rattle.machine_rules.proofs.ReadOff.{read-none, read-some, split, run-front}
+use Rattle.machine_rules.proofs.ReadOff.{read-none, read-some, IsSplit, split, run-front}
 
 -- ---- actions
 
@@ -144,47 +144,117 @@ unheld S M c d l inv apart holds = by_lock (has_lock S d l) refl where
   by_lock false is = is
   by_lock true is = absurd (apart (one-holder (lock_at S l) c d (holder c holds) (holder d is)))
 
--- ---- every run
-
-pub race-free : (S : State) (M : ℕ → ℕ) (count : ℕ) (events : List Event) → IsSound S count → Invariant S M → IsRun S events → IsRaceFree (actions_of S events)
-race-free S M count events sound inv run before between rest a b is conflict =
-    let s = split action_in S events before (accesses a) (between ++ accesses b ∷ rest) is in
-    let first = run-front S s.past s.later s.event (subst (IsRun S) s.is run) in
-    let here = run-kept S M count s.past sound inv first.0 in
-    let U : State = after S s.past in
-    let N : ℕ → ℕ = memory_over M S s.past in
-    let T : State = next U s.event in
-    let once = sound-next U (count + length s.past) s.event here.0 first.1 in
-    let good = kept U N s.event here.1 first.1 once.machine in
-    let t = split action_in T s.later between (accesses b) rest s.back in
-    let second = run-front T t.past t.later t.event (subst (IsRun T) t.is first.2) in
-    let there = run-kept T (stored_to (store_in U s.event) N) (count + length s.past + 1) t.past once good second.0 in
-    let V : State = after T t.past in
-    let one = (access-told U N s.event here.1 first.1).made a (action-access (access_in U s.event) (granted_in U s.event) a s.told) in
-    let two = (access-told V (memory_over (stored_to (store_in U s.event) N) T t.past) t.event there.1 second.1).made b (action-access (access_in V t.event) (granted_in V t.event) b t.told) in
-    let at_first : one.node.phase ≡ U.keeper.phase = in-phase U N a.core one.node one.decl one.task here.1 one.works in
-    let at_second : two.node.phase ≡ V.keeper.phase = in-phase V (memory_over (stored_to (store_in U s.event) N) T t.past) b.core two.node two.decl two.task there.1 two.works in
-    let on : U.keeper.phase ≤ T.keeper.phase = (goes-on U N s.event here.1 first.1).keeper in
-    let further : T.keeper.phase ≤ V.keeper.phase = keeper-on T (stored_to (store_in U s.event) N) (count + length s.past + 1) t.past once good second.0 in
-    let low : a.phase ≤ b.phase = omega (arith, one.phase, two.phase, at_first, at_second, on, further) in
-    by_phase (nat_lt a.phase b.phase) refl low
-    (λ (same : a.phase ≡ b.phase).
-    let shares = common U V N (memory_over (stored_to (store_in U s.event) N) T t.past) s.event t.event a b here.1 (run-setting T t.past ∙ same-setting U s.event) one two (sym two.phase ∙ sym same ∙ one.phase) conflict in
-    let had : has_lock T a.core shares.lock ≡ true = ap (holds_lock shares.lock) one.now ∙ (ap (λ (k : ℕ). is_held k shares.lock) one.keeps ∙ shares.one) in
-    let has : has_lock V b.core shares.lock ≡ true = ap (holds_lock shares.lock) two.works.found ∙ (ap (λ (o : Option TaskState). is_held (held_locks o) shares.lock) two.works.task ∙ (ap (λ (k : ℕ). is_held k shares.lock) (sym two.held) ∙ shares.two)) in
-    let took = taken T (stored_to (store_in U s.event) N) (count + length s.past + 1) t.past b.core shares.lock once good second.0 (unheld T (stored_to (store_in U s.event) N) a.core b.core shares.lock good conflict.cores had) has in
-    let phase : took.phase ≡ b.phase = omega (arith, took.low, took.high, same, one.phase, two.phase, at_first, at_second, on) in
+-- a conflict in one phase, between an event e and one after the events that follow it: the lock is handed on
+handed : (U : State) (M N K : ℕ → ℕ) (count : ℕ) (e f : Event) (es : List Event) (a b : Access) → Invariant U M → U.keeper.phase ≤ (next U e).keeper.phase → IsSound (next U e) count → Invariant (next U e) N
+    → IsRun (next U e) es → Invariant (after (next U e) es) K → IsMade U M e a → IsMade (after (next U e) es) K f b → Conflicts a b → a.phase ≡ b.phase → IsHandedOn a b (actions_of (next U e) es)
+handed U M N K count e f es a b first on sound good run later one two conflict same =
     record {
       lock = took.lock;
       first = ap (is_held a.held) took.number ∙ shares.one;
       second = ap (is_held b.held) took.number ∙ shares.two;
-      grant = subst (λ (xs : List Action). IsAmong xs (takes (record { phase = record { 0 = b.phase }; core = record { 0 = b.core }; lock = took.lock }))) t.front
-          (subst (λ (q : ℕ). IsAmong (actions_of T t.past) (takes (record { phase = record { 0 = q }; core = record { 0 = b.core }; lock = took.lock }))) phase took.among);
-    })
+      grant = subst (λ (q : ℕ). IsAmong (actions_of T es) (takes (record { phase = record { 0 = q }; core = record { 0 = b.core }; lock = took.lock }))) phase took.among;
+    }
   where
-    by_phase : (x : Bool) → nat_lt a.phase b.phase ≡ x → a.phase ≤ b.phase → (a.phase ≡ b.phase → IsHandedOn a b between) → IsSynchronized a between b
+    T : State
+    T = next U e
+
+    V : State
+    V = after T es
+
+    at_first : a.phase ≡ U.keeper.phase
+    at_first = one.phase ∙ in-phase U M a.core one.node one.decl one.task first one.works
+
+    at_second : b.phase ≡ V.keeper.phase
+    at_second = two.phase ∙ in-phase V K b.core two.node two.decl two.task later two.works
+
+    shares : SharesLock a.held b.held
+    shares = common U V M K e f a b first (run-setting T es ∙ same-setting U e) one two (sym two.phase ∙ (sym same ∙ one.phase)) conflict
+
+    had : has_lock T a.core shares.lock ≡ true
+    had = ap (holds_lock shares.lock) one.now ∙ (ap (λ (k : ℕ). is_held k shares.lock) one.keeps ∙ shares.one)
+
+    has : has_lock V b.core shares.lock ≡ true
+    has =
+        ap (holds_lock shares.lock) two.works.found
+        ∙ (ap (λ (o : Option TaskState). is_held (held_locks o) shares.lock) two.works.task ∙ (ap (λ (k : ℕ). is_held k shares.lock) (sym two.held) ∙ shares.two))
+
+    took : IsTaken T es b.core shares.lock
+    took = taken T N count es b.core shares.lock sound good run (unheld T N a.core b.core shares.lock good conflict.cores had) has
+
+    phase : took.phase ≡ b.phase
+    phase = omega (arith, took.low, took.high, same, at_first, at_second, on)
+
+-- two accesses that conflict, made by an event e and one after the events that follow it
+synchronized : (U : State) (M N : ℕ → ℕ) (count : ℕ) (e f : Event) (es : List Event) (a b : Access) → Invariant U M → U.keeper.phase ≤ (next U e).keeper.phase → IsSound (next U e) count → Invariant (next U e) N
+    → IsRun (next U e) es → IsMade U M e a → IsMade (after (next U e) es) (memory_over N (next U e) es) f b → Conflicts a b → IsSynchronized a (actions_of (next U e) es) b
+synchronized U M N count e f es a b first on sound good run one two conflict =
+    by_phase (nat_lt a.phase b.phase) refl (omega (arith, at_first, at_second, on, further)) (handed U M N (memory_over N T es) count e f es a b first on sound good run later.1 one two conflict)
+  where
+    T : State
+    T = next U e
+
+    later : IsSound (after T es) (count + length es) × Invariant (after T es) (memory_over N T es)
+    later = run-kept T N count es sound good run
+
+    at_first : a.phase ≡ U.keeper.phase
+    at_first = one.phase ∙ in-phase U M a.core one.node one.decl one.task first one.works
+
+    at_second : b.phase ≡ (after T es).keeper.phase
+    at_second = two.phase ∙ in-phase (after T es) (memory_over N T es) b.core two.node two.decl two.task later.1 two.works
+
+    further : T.keeper.phase ≤ (after T es).keeper.phase
+    further = keeper-on T N count es sound good run
+
+    by_phase : (x : Bool) → nat_lt a.phase b.phase ≡ x → a.phase ≤ b.phase → (a.phase ≡ b.phase → IsHandedOn a b (actions_of T es)) → IsSynchronized a (actions_of T es) b
     by_phase true is low handed = let less : a.phase < b.phase = grind (arith, nat_tests, is) in inl less
     by_phase false is low handed = let same : a.phase ≡ b.phase = grind (arith, nat_tests, is, low) in inr (handed same)
+
+-- ---- every run
+
+race-free : (S : State) (M : ℕ → ℕ) (count : ℕ) (events : List Event) → IsSound S count → Invariant S M → IsRun S events → IsRaceFree (actions_of S events)
+race-free S M count events sound inv run before between rest a b is conflict =
+    subst (λ (xs : List Action). IsSynchronized a xs b) t.front (synchronized U (memory_over M S s.past) N (count + length s.past + 1) s.event t.event t.past a b here.1 on sound_on good second.0 one two conflict)
+  where
+    s : IsSplit action_in S events before (accesses a) (between ++ accesses b ∷ rest)
+    s = split action_in S events before (accesses a) (between ++ accesses b ∷ rest) is
+
+    U : State
+    U = after S s.past
+
+    T : State
+    T = next U s.event
+
+    N : ℕ → ℕ
+    N = stored_to (store_in U s.event) (memory_over M S s.past)
+
+    first : IsRun S s.past × (enabled U s.event ≡ true) × IsRun T s.later
+    first = run-front S s.past s.later s.event (subst (IsRun S) s.is run)
+
+    here : IsSound U (count + length s.past) × Invariant U (memory_over M S s.past)
+    here = run-kept S M count s.past sound inv first.0
+
+    sound_on : IsSound T (count + length s.past + 1)
+    sound_on = sound-next U (count + length s.past) s.event here.0 first.1
+
+    good : Invariant T N
+    good = kept U (memory_over M S s.past) s.event here.1 first.1 sound_on.machine
+
+    on : U.keeper.phase ≤ T.keeper.phase
+    on = (goes-on U (memory_over M S s.past) s.event here.1 first.1).keeper
+
+    t : IsSplit action_in T s.later between (accesses b) rest
+    t = split action_in T s.later between (accesses b) rest s.back
+
+    second : IsRun T t.past × (enabled (after T t.past) t.event ≡ true) × IsRun (next (after T t.past) t.event) t.later
+    second = run-front T t.past t.later t.event (subst (IsRun T) t.is first.2)
+
+    one : IsMade U (memory_over M S s.past) s.event a
+    one = (access-told U (memory_over M S s.past) s.event here.1 first.1).made a (action-access (access_in U s.event) (granted_in U s.event) a s.told)
+
+    two : IsMade (after T t.past) (memory_over N T t.past) t.event b
+    two =
+        (access-told (after T t.past) (memory_over N T t.past) t.event (run-kept T N (count + length s.past + 1) t.past sound_on good second.0).1 second.1).made b
+        (action-access (access_in (after T t.past) t.event) (granted_in (after T t.past) t.event) b t.told)
 
 pub run-race_free : (C : Setting) (events : List Event) → IsReady C → IsRun (initial_state C) events → IsRaceFree (actions_of (initial_state C) events)
 run-race_free C events ready run =

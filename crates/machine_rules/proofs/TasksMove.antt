@@ -1,6 +1,6 @@
 -- Every event leaves a core's task where it stands, or takes it further: in its phase by the instructions that it has retired,
 -- or to a later phase. A task comes to hold a lock only as the lock is granted to it.
-use Rattle.std.proofs.Common.{◌≡◌, ◌⊎◌, inl, inr, ℕ, ◌+◌, ◌<◌, ◌≤◌, ◌==◌, ◌&&◌, ◌||◌, ◌^◌, not, Bool, true, false, cond, List, bit_or, slice_get, Option, Some, None, refl, sym, ap, subst, ◌∙◌, arith}
+use Rattle.std.proofs.Common.{◌≡◌, ◌⊎◌, inl, inr, ℕ, ◌<◌, ◌≤◌, ◌==◌, not, Bool, true, false, List, slice_get, Option, Some, None, refl, sym, ap, subst, ◌∙◌, arith}
 use Rattle.std.specs.Option.{option_map}
 use Rattle.std.proofs.lemmas.Bool.{eqb-true, or_cases, and_parts}
 use Rattle.std.proofs.lemmas.Option.{same_Some}
@@ -15,10 +15,10 @@ use Rattle.rv_core.specs.declared.task.TaskState.{TaskState}
 use Rattle.rv_core.specs.declared.need.Need as need
 use Rattle.rv_core.specs.declared.need.Need.{Need}
 use Rattle.rv_core.specs.Access.{is_held}
-use Rattle.rv_core.specs.Kinds.{IsLoad, IsAdvance, held_after}
+use Rattle.rv_core.specs.Kinds.{IsLoad, IsAdvance}
 use Rattle.rv_core.specs.Need.{need_of}
 use Rattle.rv_core.specs.Step.{advanced, loaded_of}
-use Rattle.rv_core.specs.Task.{started, stopped}
+use Rattle.rv_core.specs.Task.{started}
 use Rattle.rv_core.proofs.Completions.{advanced-held, loaded-held, stopped-held, advanced-retired, loaded-retired, stopped-retired, release-allowed}
 use Rattle.rv_core.proofs.HeldLemmas.{holds-none, holds-acquired, holds-released}
 use Rattle.flat_machine.proofs.Rights.{both-ways}
@@ -32,7 +32,7 @@ use Rattle.machine_rules.specs.Coherent.{has_lock, holds_lock}
 use Rattle.machine_rules.proofs.Invariant.{Invariant}
 use Rattle.machine_rules.proofs.Steps.{NodeStep}
 use Rattle.machine_rules.proofs.Outcomes.{Outcomes, IsActing}
-use Rattle.machine_rules.proofs.Exclusive.{IsAtWork, in-phase}
+use Rattle.machine_rules.proofs.Exclusive.{in-phase}
 use Rattle.machine_rules.proofs.Dispatch.{ways}
 
 -- the second node's task stands where the first's does, or further

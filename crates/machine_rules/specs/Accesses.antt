@@ -1,5 +1,5 @@
 -- The accesses of a run: the loads and stores that its tasks retire, in the order in which they retire.
-use Rattle.std.specs.Prelude.{ℕ, Bool, true, false, List, slice_get, Option, Some, None}
+use Rattle.std.specs.Prelude.{ℕ, false, List, slice_get, Option, Some, None}
 use Rattle.dn_base.specs.declared.ids.CoreId.{CoreId}
 use Rattle.dn_base.specs.declared.ids.WordId.{WordId}
 use Rattle.dn_base.specs.declared.ids.Grant.{Grant}

@@ -1,5 +1,5 @@
 -- Data races: accesses that conflict and aren't ordered by synchronization.
-use Rattle.std.specs.Prelude.{◌≡◌, ◌≢◌, ◌⊎◌, ℕ, ◌<◌, true, List, ◌∷◌, ◌++◌, None}
+use Rattle.std.specs.Prelude.{◌≡◌, ◌≢◌, ◌⊎◌, ◌<◌, true, List, ◌∷◌, ◌++◌, None}
 use Rattle.std.specs.List.{IsAmong}
 use Rattle.dn_base.specs.declared.ids.LockId.{LockId}
 use Rattle.rv_core.specs.Access.{is_held}

@@ -14,18 +14,12 @@ use Rattle.registration_protocol.specs.Node.{NodeParts}
 use Rattle.machine_rules.specs.State.{State, lock_at}
 use Rattle.machine_rules.specs.Flight.{bit, flight, is_grant_to}
 use Rattle.machine_rules.specs.Coherent.{has_lock, holder_in}
+use Rattle.machine_rules.proofs.Exclusive.{one-holder}
 use Rattle.machine_rules.proofs.Invariant.{Invariant}
 use Rattle.run_agreement.specs.Agreed.{States, Loads, stands, AreShown}
 use Rattle.run_agreement.proofs.Nodes.{node-there, HasIt, stands-or}
 
 -- a lock has one holder at the most
-one-holder : (o : Option Lock) (c d : ℕ) → 1 ≤ holder_in c o → 1 ≤ holder_in d o → c ≡ d
-one-holder None c d first second = absurd (omega (arith, first))
-one-holder (Some h) c d first second = by_holder h.holder first second where
-  by_holder : (o : Option CoreId) → 1 ≤ holder_count c o → 1 ≤ holder_count d o → c ≡ d
-  by_holder None first second = absurd (omega (arith, first))
-  by_holder (Some x) first second = grind (arith, nat_tests, first, second)
-
 holder-once : (o : Option Lock) (c : ℕ) → holder_in c o ≤ 1
 holder-once None c = omega arith
 holder-once (Some h) c = by_holder h.holder where

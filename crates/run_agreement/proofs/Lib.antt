@@ -10,8 +10,10 @@ pub mod Granting
 pub mod Halting
 pub mod Holding
 pub mod Keeping
+pub mod MoreFuel
 pub mod Nodes
 pub mod Opened
+pub mod Ordered
 pub mod Phases
 pub mod Places
 pub mod PrefixAgrees

@@ -19,5 +19,6 @@ pub use core_laws::{
 };
 pub use laws::{
     every_complete_run_has_the_end_of_the_flat_run,
-    every_run_agrees_with_the_flat_run_of_its_grants,
+    every_run_agrees_with_the_flat_run_of_its_grants, more_fuel_changes_no_ending_that_is_done,
+    no_run_is_stuck_if_locks_are_taken_in_order,
 };
