@@ -8,7 +8,6 @@ ghost use Rattle.run_account.specs.Events.{item_at, item_if, has_untold_copy, in
 
 use crate::Measure;
 use crate::account::Account;
-use crate::nodes::need;
 use dn_base::{CoreId, WordId};
 use dn_machine::{Machine, a_machine_is_kept};
 use registration_protocol::{Node, NodeWait};
@@ -100,7 +99,7 @@ impl Account {
     pub(crate) fn note_instr(&mut self, machine: &Machine, node: &Node)
         ensures { self.new ≡ adding self.old (instr_items machine.now.state self.old.departures node.now) }
     {
-        match need(machine, node) {
+        match node.needs(machine.program(), machine.fuel()) {
             Some(Need::Load { word }) => self.note_load(node, word),
             Some(Need::Store { word, whole }) => self.note_store(machine, node, word, whole),
             _ => {}

@@ -5,11 +5,11 @@ ghost use Rattle.message_net.specs.Pool.{removed};
 ghost use Rattle.run_chart.specs.About.{about_code, about_core, about_in, about_mail, about_message, about_task, core_ends_by, need_ends_by, ends_by};
 
 use crate::affected::mail_of;
-use crate::needs::need;
 use dn_base::CoreId;
 use dn_machine::Machine;
 use message_chart::About;
 use message_net::{Event, Mail, Message};
+use region_table::FIRST_CODE_ADDRESS;
 use rv_core::{End, Need, TaskState};
 
 /// What a message is about.
@@ -55,10 +55,10 @@ fn about_mail(mail: Option<Mail>) -> About
 fn about_code(words: usize, pc: u32) -> About
     ensures { result ≡ about_code words pc }
 {
-    if pc < 0x1000 || pc % 4 != 0 {
+    if pc < FIRST_CODE_ADDRESS || pc % 4 != 0 {
         return About::Nothing;
     }
-    let number = (pc - 0x1000) / 4;
+    let number = (pc - FIRST_CODE_ADDRESS) / 4;
     if (number as usize) < words {
         About::Code(number)
     } else {
@@ -116,7 +116,7 @@ fn core_ends_by(machine: &Machine, core: CoreId) -> Option<End>
     ensures { result ≡ core_ends_by machine.now.state core }
 {
     if core.0 < machine.shape().cores {
-        need_ends_by(need(machine, machine.node(core)))
+        need_ends_by(machine.node(core).needs(machine.program(), machine.fuel()))
     } else {
         None
     }

@@ -4,7 +4,6 @@ ghost use Rattle.message_net.specs.Pool.{removed};
 ghost use Rattle.registration_protocol.specs.Node.{need_now};
 ghost use Rattle.run_chart.specs.Affected.{affected_by, affected_by_core, affected_by_mail, by_bank_message, by_core_message, by_need};
 
-use crate::needs::need;
 use dn_base::{CoreId, WordId};
 use dn_machine::Machine;
 use message_net::{Actor, Event, Mail, MailId, Message, Pool};
@@ -90,7 +89,7 @@ fn by_core(machine: &Machine, core: CoreId) -> Affected
     ensures { result ≡ affected_by_core machine.now.state core }
 {
     if core.0 < machine.shape().cores {
-        by_need(need(machine, machine.node(core)))
+        by_need(machine.node(core).needs(machine.program(), machine.fuel()))
     } else {
         Affected::Nothing
     }

@@ -10,7 +10,6 @@ mod gathering;
 mod laws;
 mod mails;
 mod marks;
-mod needs;
 mod words;
 
 pub use charting::chart;
