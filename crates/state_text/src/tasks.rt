@@ -6,16 +6,13 @@ ghost use Rattle.state_text.specs.Cores.{no_task_line, running_line, ended_line,
 
 use crate::called::push_core;
 use dn_base::{CoreId, Memory};
-use region_table::Program;
+use region_table::{FIRST_CODE_ADDRESS, Program};
 use registration_protocol::Node;
 use run_report::push_end;
 use rv_core::{End, EndShown};
 use rv_listing::push_code_word;
 use text_pieces::{push, push_decimal, push_hexadecimal};
 use text_places::{CodePlace, Places, push_code_place, push_lock};
-
-/// The address of the first code word.
-const FIRST_CODE_ADDRESS: u32 = 0x1000;
 
 #[tactic(auto, unfolding(crate::specs::Cores::no_task_line))]
 fn push_no_task(out: &mut Vec<u8>, core: CoreId) -> Result<(), Memory>
