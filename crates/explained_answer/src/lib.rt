@@ -15,7 +15,6 @@ mod programs;
 mod quotes;
 mod reading;
 mod refusals;
-mod shape;
 mod taken;
 mod tasks;
 mod timing;

@@ -8,21 +8,11 @@ ghost use Rattle.explained_answer.specs.Fronts.{line_behind};
 ghost use Rattle.explained_answer.specs.Trace.{StandsHead, IsTraceTaken, taken_by};
 
 use crate::fronts::{alike, line_behind};
-use crate::shape::read_shape;
 use crate::taken::Taken;
 use dn_base::{MOST_EVENTS, Memory};
-use run_replay::{TraceFault, read_trace};
+use run_replay::{TraceFault, behind_title, read_shape, read_trace};
 use std::alloc::Global;
 use text_pieces::{behind, field, push_source};
-
-/// What follows the first line of a document, if that is there.
-#[tactic(auto, unfolding(run_replay::specs::Document::title))]
-fn behind_title(bytes: &[u8]) -> Option<&[u8]>
-    ensures some { IfSome result (λ rest. bytes.now ≡ title ++ rest.now) }
-    ensures none { IfNone result ((rest : List ℕ) → bytes.now ≢ title ++ rest) }
-{
-    behind(bytes, b"denovo-trace 1\n")
-}
 
 /// A source text after the number of its bytes.
 fn source_part(alloc: Global, text: &[u8]) -> Result<Vec<u8>, Memory>

@@ -16,17 +16,18 @@ pub(crate) struct Heading<'a> {
     pub(crate) rest: &'a [u8],
 }
 
-/// The bytes after the first line of a document; None if they don't begin with that line.
+/// The bytes after the first line of a document; None if they don't begin with that line. Takes no memory.
 #[tactic(auto, unfolding(crate::specs::Document::title))]
-fn behind_title(bytes: &[u8]) -> Option<&[u8]>
+pub fn behind_title(bytes: &[u8]) -> Option<&[u8]>
     ensures some { IfSome result (λ rest. bytes.now ≡ title ++ rest.now) }
     ensures none { IfNone result ((rest : List ℕ) → bytes.now ≢ title ++ rest) }
 {
     behind(bytes, b"denovo-trace 1\n")
 }
 
-/// Reads the line with the shape and the fuel at the start of some bytes. Gives these and the bytes after it.
-fn shape(bytes: &[u8]) -> Option<(TraceShape, &[u8])>
+/// The shape and the fuel of a document, whose line stands at the start of some bytes, and the bytes after it; None if no such
+/// line stands there. Takes no memory.
+pub fn read_shape(bytes: &[u8]) -> Option<(TraceShape, &[u8])>
     ensures some { IfSome result (λ f. Stands IsTraceShape shape_line bytes.now f.0 f.1.now) }
     ensures none { IfNone result (NoneStands IsTraceShape shape_line bytes.now) }
 {
@@ -49,7 +50,7 @@ pub(crate) fn read_heading(bytes: &[u8]) -> Option<Heading<'_>>
     ensures none { IfNone result (NoneStands IsHead head_text bytes.now) }
 {
     let bytes = behind_title(bytes)?;
-    let (shape, bytes) = shape(bytes)?;
+    let (shape, bytes) = read_shape(bytes)?;
     let (text, bytes) = source(bytes)?;
     let (count, rest) = field(bytes, b"events ", 0, MOST_EVENTS as u32, b'\n')?;
     Some(Heading {

@@ -14,6 +14,7 @@ mod replaying;
 mod trace;
 mod writing;
 
+pub use head::{behind_title, read_shape};
 pub use laws::{
     a_document_is_not_too_large, a_document_is_of_one_trace, events_have_one_replay,
     what_a_run_tells_fits_a_document,

@@ -4,7 +4,7 @@ use Rattle.text_pieces.specs.Field.{field}
 use Rattle.text_pieces.proofs.Fields.{if-none}
 use Rattle.text_pieces.proofs.Forms.{field-next}
 use Rattle.run_replay.proofs.Forms.{shape-parts}
-use Rattle.run_replay.proofs.head.shape.Goals as goal
+use Rattle.run_replay.proofs.head.read_shape.Goals as goal
 
 pub returns-in_err-banks-clause-none : goal.returns-in_err-banks-clause-none
 returns-in_err-banks-clause-none c =
