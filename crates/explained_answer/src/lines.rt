@@ -1,22 +1,18 @@
 //! The lines of the answer of a run.
 ghost use Rattle.std.specs.Prelude.{◌≡◌, ◌++◌, All, OnOk, IfOk};
 ghost use Rattle.explained_answer.specs.AnswerLines.{answer_line};
-ghost use Rattle.sentences.specs.Endings.{code_place_at};
 ghost use Rattle.explained_answer.specs.Lines.{named_word, named_lock, which_line, declared_there, task_there, the_instruction, stands_there, instruction_there, unproven_text, sentences_behind, lines_and_sentences, IsLineOf, IsWritten, lines_in};
 
 use crate::AnswerLine;
 use crate::holders::{holder_on, last_grants};
 use crate::reading::ReadLine;
 use dn_base::Memory;
-use sentences::push_ending;
+use sentences::{code_place_at, push_ending};
 use std::alloc::Global;
 use text_pieces::{push, push_decimal};
 use text_places::{
     CodePlace, Located, Places, TaskPlace, push_code_place, push_lock, push_quoted_line, push_word,
 };
-
-/// The address of code word 0.
-const FIRST_CODE_ADDRESS: u32 = 0x1000;
 
 #[tactic(auto, unfolding(crate::specs::Lines::named_word))]
 fn push_named_word(out: &mut Vec<u8>, located: &Located, word: u32) -> Result<(), Memory>
@@ -91,17 +87,6 @@ fn push_instruction_there(
     push_the_instruction(out)?;
     push_task_there(out, task)?;
     push_stands_there(out, text, place)
-}
-
-/// The place of the code word at an address, if there is one.
-pub(crate) fn code_place_at(places: &Places, address: u32) -> Option<CodePlace>
-    ensures { result ≡ code_place_at places.now address }
-{
-    if FIRST_CODE_ADDRESS <= address && address % 4 == 0 {
-        places.code_word(((address - FIRST_CODE_ADDRESS) / 4) as usize)
-    } else {
-        None
-    }
 }
 
 /// Adds where the instruction stands that the prover names.

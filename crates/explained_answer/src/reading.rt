@@ -5,10 +5,10 @@ ghost use Rattle.explained_answer.specs.AnswerLines.{answer_line};
 ghost use Rattle.region_table.specs.Program.{tasks_of};
 ghost use Rattle.explained_answer.specs.Lines.{has_task, has_named_lock, is_size_of, count_is_of, fits_program, IsLineOf, NoLineOf, IsWritten, IsAnswerRead};
 
-use crate::lines::code_place_at;
 use crate::{AnswerLine, Count, read_line};
 use dn_base::Memory;
 use region_table::{Phase, Program};
+use sentences::code_place_at;
 use std::alloc::Global;
 use text_places::Located;
 

@@ -5,15 +5,12 @@ ghost use Rattle.sentences.specs.Endings.{which_line, declares_word, the_task, d
 use crate::traps::{push_declares, push_remedy, push_trap};
 use crate::uses::task_use;
 use dn_base::Memory;
-use region_table::Program;
+use region_table::{FIRST_CODE_ADDRESS, Program};
 use rv_core::{EndShown, TaskEnd};
 use text_pieces::{push, push_decimal};
 use text_places::{
     CodePlace, Located, Places, TaskPlace, push_code_place, push_lock, push_quoted_line,
 };
-
-/// The address of code word 0.
-const FIRST_CODE_ADDRESS: u32 = 0x1000;
 
 #[tactic(auto, unfolding(crate::specs::Endings::which_line))]
 fn push_which_line(out: &mut Vec<u8>) -> Result<(), Memory>
@@ -67,8 +64,8 @@ fn push_task(out: &mut Vec<u8>, places: &Places, phase: u32, core: u32) -> Resul
     push_declared(out, places.task(phase as usize, core))
 }
 
-/// The place of the code word at an address, if there is one.
-fn code_place_at(places: &Places, address: u32) -> Option<CodePlace>
+/// The place in the text of the code word at an address, if there is one. Takes no memory.
+pub fn code_place_at(places: &Places, address: u32) -> Option<CodePlace>
     ensures { result ≡ code_place_at places.now address }
 {
     if FIRST_CODE_ADDRESS <= address && address % 4 == 0 {

@@ -22,7 +22,7 @@ mod traps;
 mod uses;
 
 pub use conflicts::push_conflict;
-pub use endings::push_ending;
+pub use endings::{code_place_at, push_ending};
 pub use laws::{
     a_quoted_effect_claims_the_word_for_its_task, an_effect_gives_the_words_that_it_claims,
 };
