@@ -9,7 +9,7 @@ use Rattle.src_text.specs.Byte.{is_newline}
 use Rattle.src_text.specs.Line.{cut}
 use Rattle.src_text.proofs.LineLemmas.{cut-first}
 use Rattle.text_places.specs.Texts.{quoted_by, quoted_line}
-use Rattle.explained_answer.specs.declared.quotes.Span.{Span}
+use Rattle.src_text.specs.declared.token.Span.{Span}
 use Rattle.explained_answer.specs.Quotes.{span_bytes, IsSpanOf, AreSpans}
 
 -- the places of the lines before a place, where a line begins

@@ -2,7 +2,7 @@
 use Rattle.std.specs.Prelude.{◌≡◌, ℕ, ◌≤◌, List, length, map, slice_range}
 use Rattle.std.specs.List.{All}
 use Rattle.src_text.specs.Line.{cut}
-use Rattle.explained_answer.specs.declared.quotes.Span.{Span}
+use Rattle.src_text.specs.declared.token.Span.{Span}
 
 abbrev pub span_bytes : List ℕ → Span → List ℕ
 span_bytes text s = slice_range text s.start s.end

@@ -5,10 +5,11 @@ ghost use Rattle.explained_answer.specs.Quotes.{AreSpans, span_bytes};
 ghost use Rattle.explained_answer.specs.Listing.{given_by, second_given_by, word_said, code_said, said_of_row, explained_from, explained_lines, explained_listing, IsListingTaken};
 
 use crate::fronts::{alike, line_behind};
-use crate::quotes::{Span, line_spans, push_quoted_line};
+use crate::quotes::{line_spans, push_quoted_line};
 use crate::taken::Taken;
 use dn_base::Memory;
 use rv_listing::listing;
+use src_text::Span;
 use std::alloc::Global;
 use text_pieces::push;
 use text_places::{CodePlace, Located};

@@ -13,5 +13,7 @@ pub use laws::{
 };
 pub use lines::line_text;
 pub use places::{CodePlace, Located, Places, TaskPlace, located_program};
-pub use texts::{push_address, push_code_place, push_lock, push_quoted_line, push_word};
+pub use texts::{
+    push_address, push_code_place, push_lock, push_quoted, push_quoted_line, push_word,
+};
 pub use words::{WordPlace, region_of_word};

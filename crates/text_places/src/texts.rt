@@ -128,8 +128,12 @@ pub fn push_lock(out: &mut Vec<u8>, locks: &[Name], number: usize) -> Result<(),
     }
 }
 
+/// Appends the bytes of a line after its number, as `12 | la t0, m`, and a newline.
+///
+/// # Errors
+/// `Memory` where there is no room.
 #[tactic(auto, unfolding(crate::specs::Texts::quoted))]
-fn push_quoted(out: &mut Vec<u8>, line: u32, bytes: &[u8]) -> Result<(), Memory>
+pub fn push_quoted(out: &mut Vec<u8>, line: u32, bytes: &[u8]) -> Result<(), Memory>
     ensures { OnOk result (out.new.items ≡ out.old.items ++ quoted line bytes.now) }
 {
     push_decimal(out, line)?;
