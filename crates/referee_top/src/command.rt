@@ -3,15 +3,16 @@ ghost use Rattle.clap.specs.Words.{app_of};
 ghost use Rattle.referee_top.specs.Command.{referee_command};
 
 use clap::Command;
-use command_words::{bare_command, text_option, with_option};
+use command_words::{OptionValue, bare_command, with_options};
 use std::alloc::{AllocError, Global};
+
+/// The option of the command, with its default.
+const OPTIONS: [(&str, OptionValue<'_>); 1] = [("mode", OptionValue::Text("judge"))];
 
 /// The command with its one option.
 #[tactic(auto, unfolding(crate::specs::Command::referee_command))]
 pub(crate) fn referee<'a>(alloc: Global) -> Result<Command<'a>, AllocError>
     ensures { IfOk result (λ made. app_of made ≡ referee_command) }
 {
-    let made = bare_command(alloc, "referee");
-    let made = with_option(made, text_option(alloc, "mode", "judge"))?;
-    Ok(made)
+    with_options(alloc, bare_command(alloc, "referee"), &OPTIONS)
 }

@@ -1,17 +1,15 @@
 -- The command: its options, which lists of words it takes, and what they ask for.
-use Rattle.std.specs.Prelude.{pos, ℕ, List, codes, bytes_eq, Option, Some, None, option_and_then, option_map, if◌then◌else◌}
+use Rattle.std.specs.Prelude.{ℕ, List, codes, bytes_eq, Option, Some, None, option_and_then, option_map, if◌then◌else◌}
 use Rattle.std.specs.Int.{IsInRange}
-use Rattle.clap.specs.Walk.{Row, Rule, Text, first_of}
-use Rattle.clap.specs.Simple.{App, new_app, new_rule, with_rule}
-use Rattle.clap.specs.declared.builder.action.ArgAction.TheVariants.{Set}
-use Rattle.clap.specs.declared.builder.value_parser.ValueParser.TheVariants as parser
+use Rattle.clap.specs.Walk.{Row, Text, first_of}
+use Rattle.clap.specs.Simple.{App, new_app, with_rule}
 use Rattle.run_account.specs.declared.item.Grouping.{Grouping}
 use Rattle.run_account.specs.declared.item.Grouping.TheVariants as by
 use Rattle.run_account.specs.declared.form.Form.{Form}
 use Rattle.run_account.specs.declared.form.Form as form
 use Rattle.run_chart.specs.declared.finishing.Columns.{Columns}
 use Rattle.run_chart.specs.declared.finishing.Columns as columns
-use Rattle.command_words.specs.Words.{bare, faults_in, number_in, number_rule, text_rule, values_in, where_taken}
+use Rattle.command_words.specs.Words.{bare, faults_in, number_in, number_rule, open_number_rule, text_rule, values_in, where_taken}
 use Rattle.view_top.specs.declared.options.View.{View}
 use Rattle.view_top.specs.declared.options.View as view
 use Rattle.view_top.specs.declared.options.ChartOptions.{ChartOptions}
@@ -21,11 +19,7 @@ use Rattle.view_top.specs.declared.options.PageOptions.{PageOptions}
 
 -- ---- the command
 
--- an option whose value is a number of 32 bits; its default depends on the mode
-abbrev pub open_number_rule : Text → Rule
-open_number_rule name = record (new_rule name) { long = Some name; action = Some Set; parser = Some (parser.Signed (pos 0) (pos 4294967295)) }
-
--- the command `view` with its ten options
+-- the command `view` with its ten options; how many rows there are by default depends on the mode
 unfoldable pub view_command : App
 view_command =
     with_rule (with_rule (with_rule (with_rule (with_rule (with_rule (with_rule (with_rule (with_rule (with_rule (bare (new_app (codes "view")))

@@ -1,37 +1,29 @@
-ghost use Rattle.std.specs.Prelude.{◌≡◌, false, IfOk};
-ghost use Rattle.clap.specs.Words.{app_of, rule_of};
-ghost use Rattle.view_top.specs.Command.{open_number_rule, view_command};
+ghost use Rattle.std.specs.Prelude.{◌≡◌, IfOk};
+ghost use Rattle.clap.specs.Words.{app_of};
+ghost use Rattle.view_top.specs.Command.{view_command};
 
-use clap::{Arg, ArgAction, Command};
-use command_words::{bare_command, number_option, text_option, with_option};
+use clap::Command;
+use command_words::{OptionValue, bare_command, with_options};
 use std::alloc::{AllocError, Global};
 
-/// The option `--name` whose value is a number of 32 bits. It has no default here: that depends on the mode.
-fn open_number_option<'a>(alloc: Global, name: &'a str) -> Arg<'a>
-    ensures rule { rule_of result ≡ open_number_rule name.now }
-    ensures local { result.global ≡ false }
-{
-    Arg::new(alloc, name)
-        .long(name)
-        .action(ArgAction::Set)
-        .value_parser(clap::value_parser!(u32))
-}
+/// The options of the command, with their defaults. How many rows there are by default depends on the mode.
+const OPTIONS: [(&str, OptionValue<'_>); 10] = [
+    ("mode", OptionValue::Text("chart")),
+    ("first", OptionValue::Number("0")),
+    ("rows", OptionValue::OpenNumber),
+    ("columns", OptionValue::Text("all")),
+    ("tick-core", OptionValue::Number("1")),
+    ("tick-bank", OptionValue::Number("10")),
+    ("tick-mail", OptionValue::Number("5")),
+    ("by", OptionValue::Text("run")),
+    ("form", OptionValue::Text("text")),
+    ("event", OptionValue::Number("0")),
+];
 
 /// The command with its ten options.
 #[tactic(auto, unfolding(crate::specs::Command::view_command))]
 pub(crate) fn view_command<'a>(alloc: Global) -> Result<Command<'a>, AllocError>
     ensures { IfOk result (λ made. app_of made ≡ view_command) }
 {
-    let made = bare_command(alloc, "view");
-    let made = with_option(made, text_option(alloc, "mode", "chart"))?;
-    let made = with_option(made, number_option(alloc, "first", "0"))?;
-    let made = with_option(made, open_number_option(alloc, "rows"))?;
-    let made = with_option(made, text_option(alloc, "columns", "all"))?;
-    let made = with_option(made, number_option(alloc, "tick-core", "1"))?;
-    let made = with_option(made, number_option(alloc, "tick-bank", "10"))?;
-    let made = with_option(made, number_option(alloc, "tick-mail", "5"))?;
-    let made = with_option(made, text_option(alloc, "by", "run"))?;
-    let made = with_option(made, text_option(alloc, "form", "text"))?;
-    let made = with_option(made, number_option(alloc, "event", "0"))?;
-    Ok(made)
+    with_options(alloc, bare_command(alloc, "view"), &OPTIONS)
 }
