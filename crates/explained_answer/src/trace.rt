@@ -1,8 +1,8 @@
 //! The document of a run of a text.
-ghost use Rattle.std.specs.Prelude.{◌≡◌, ◌≢◌, ◌≤◌, ◌+◌, ◌++◌, List, ℕ, length, IfOk, IfSome, IfNone, MatchOption};
+ghost use Rattle.std.specs.Prelude.{◌≡◌, ◌≤◌, ◌+◌, length, IfOk, MatchOption};
 ghost use Rattle.text_pieces.specs.Parts.{source_part};
 ghost use Rattle.run_replay.specs.declared.trace.Trace.{Trace as TraceOf};
-ghost use Rattle.run_replay.specs.Document.{title, IsDocument};
+ghost use Rattle.run_replay.specs.Document.{IsDocument};
 ghost use Rattle.run_replay.specs.Faults.{HasFault};
 ghost use Rattle.explained_answer.specs.Fronts.{line_behind};
 ghost use Rattle.explained_answer.specs.Trace.{StandsHead, IsTraceTaken, taken_by};
