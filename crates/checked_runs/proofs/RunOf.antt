@@ -76,7 +76,7 @@ without-grants P fuel (g ∷ gs) e none is = let no_run = alone-only P fuel g gs
 -- what the machine says of a run, said of the setting that it was opened in
 module _ (P : ProgramParts) (s : Shape) (fuel : ℕ) (C : Setting) (r : RunRecord) where
   -- the flat machine's run by the grants that the record has
-  has-flat_run : IsRecord (initial_state C) r → HasFlatEnd C r.events → HasFlatRun C r
+  pub has-flat_run : IsRecord (initial_state C) r → HasFlatEnd C r.events → HasFlatRun C r
   has-flat_run is flat =
       record {
         end' = flat.end';
@@ -92,11 +92,11 @@ module _ (P : ProgramParts) (s : Shape) (fuel : ℕ) (C : Setting) (r : RunRecor
       ∙ ap (λ (n : ℕ). flat_end C.program n r.grants) (sym asked.fuel)
       ∙ flat.value
 
-  has-cause : IsSettingOf P s fuel C → HasFlatRun C r → IsCaused P fuel r.grants r.ending
+  pub has-cause : IsSettingOf P s fuel C → HasFlatRun C r → IsCaused P fuel r.grants r.ending
   has-cause asked flat = subst (IsCaused P fuel r.grants) flat.ending (caused P fuel r.grants flat.end' (value-of asked flat))
 
   -- without locks there is no grant, and one end
-  has-no_grants : IsSettingOf P s fuel C → HasFlatRun C r → P.locks ≡ [] → IsWithoutGrants P fuel r
+  pub has-no_grants : IsSettingOf P s fuel C → HasFlatRun C r → P.locks ≡ [] → IsWithoutGrants P fuel r
   has-no_grants asked flat none =
       let no_locks : length P.locks ≡ 0 = ap length none in
       let value = value-of asked flat in
@@ -109,7 +109,7 @@ module _ (P : ProgramParts) (s : Shape) (fuel : ℕ) (C : Setting) (r : RunRecor
             ∙ ap Some flat.ending;
       }
 
-  pub run-of : IsSettingOf P s fuel C → IsCoherentRun (initial_state C) r → HasFlatEnd C r.events → length r.counts.kinds ≡ 17 → IsRunOf P s fuel r
+  unfoldable pub run-of : IsSettingOf P s fuel C → IsCoherentRun (initial_state C) r → HasFlatEnd C r.events → length r.counts.kinds ≡ 17 → IsRunOf P s fuel r
   run-of asked machine flat each =
       let by_grants = has-flat_run machine.is_true flat in
       record { setting = C; setting_is = asked; machine = machine; each_kind = each; flat = by_grants; caused = has-cause asked by_grants; lock_free = has-no_grants asked by_grants }

@@ -59,7 +59,7 @@ module _ (o : Options) (before after : SinkState) (text : List ℕ) (answer : An
     where
       by_finish : IsWritten answer_told given.output before after answer → Written
       by_finish (inl (e, delivered)) = record { out = (output_in given.output); is = given.answer; ends = status_at answer _ e; run = run_at answer _ e; delivered = delivered }
-      by_finish (inr (e, failed, front)) = let bad : other answer.status ≡ true = ap other (status_at answer _ e) in cc
+      by_finish (inr (e, (failed, front))) = let bad : other answer.status ≡ true = ap other (status_at answer _ e) in cc
   written (inr starved) plain = let bad : other answer.status ≡ true = ap other (status_at answer _ starved.0) in cc
 
   record Stopped : Type 0 where
@@ -74,7 +74,7 @@ module _ (o : Options) (before after : SinkState) (text : List ℕ) (answer : An
     where
       by_finish : IsWritten answer_told given.output before after answer → Stopped
       by_finish (inl (e, delivered)) = absurd (unlike o text (output_in given.output) status.TheVariants.WriteFault given.answer refl (sym (status_at answer _ e) ∙ r))
-      by_finish (inr (e, failed, front)) = record { out = (output_in given.output); is = given.answer; failed = failed; front = front }
+      by_finish (inr (e, (failed, front))) = record { out = (output_in given.output); is = given.answer; failed = failed; front = front }
   stopped (inr starved) r = let bad : status.TheVariants.Memory ≡ status.TheVariants.WriteFault = sym (status_at answer _ starved.0) ∙ r in cc
 
   -- one with the status Memory left the sink alone
@@ -83,7 +83,7 @@ module _ (o : Options) (before after : SinkState) (text : List ℕ) (answer : An
     where
       by_finish : IsWritten answer_told given.output before after answer → IsUntouched before after
       by_finish (inl (e, delivered)) = absurd (unlike o text (output_in given.output) status.TheVariants.Memory given.answer refl (sym (status_at answer _ e) ∙ r))
-      by_finish (inr (e, failed, front)) = let bad : status.TheVariants.WriteFault ≡ status.TheVariants.Memory = sym (status_at answer _ e) ∙ r in cc
+      by_finish (inr (e, (failed, front))) = let bad : status.TheVariants.WriteFault ≡ status.TheVariants.Memory = sym (status_at answer _ e) ∙ r in cc
   starved-untouched (inr starved) r = starved.1
 
   -- none has one of these
@@ -92,7 +92,7 @@ module _ (o : Options) (before after : SinkState) (text : List ℕ) (answer : An
     where
       by_finish : IsWritten answer_told given.output before after answer → ⊥
       by_finish (inl (e, delivered)) = unlike o text (output_in given.output) u given.answer bad (sym (status_at answer _ e) ∙ r)
-      by_finish (inr (e, failed, front)) = no_fault (sym r ∙ status_at answer _ e)
+      by_finish (inr (e, (failed, front))) = no_fault (sym r ∙ status_at answer _ e)
   never u (inr starved) bad no_fault no_memory r = no_memory (sym r ∙ status_at answer _ starved.0)
 
   -- one with another status than WriteFault has no fault of the sink
@@ -101,7 +101,7 @@ module _ (o : Options) (before after : SinkState) (text : List ℕ) (answer : An
     where
       by_finish : IsWritten answer_told given.output before after answer → after.faults ≡ before.faults
       by_finish (inl (e, delivered)) = delivered.faultless
-      by_finish (inr (e, failed, front)) = absurd (no_fault (status_at answer _ e))
+      by_finish (inr (e, (failed, front))) = absurd (no_fault (status_at answer _ e))
   replied-faultless (inr starved) no_fault = sink_faults-untouched before after starved.1
 
   -- one with an outcome's or a refusal's status left all flushed
@@ -110,7 +110,7 @@ module _ (o : Options) (before after : SinkState) (text : List ℕ) (answer : An
     where
       by_finish : IsWritten answer_told given.output before after answer → IsFlushed after
       by_finish (inl (e, delivered)) = delivered.flushed
-      by_finish (inr (e, failed, front)) = absurd (no-failure answer _ e refl is)
+      by_finish (inr (e, (failed, front))) = absurd (no-failure answer _ e refl is)
   replied-flushed (inr starved) is = absurd (no-failure answer _ starved.0 refl is)
 
   -- where the sink has no fault the answer was written, if there was memory
@@ -119,7 +119,7 @@ module _ (o : Options) (before after : SinkState) (text : List ℕ) (answer : An
     where
       by_finish : IsWritten answer_told given.output before after answer → HasStatus o text answer.status ⊎ (answer.status ≡ status.TheVariants.Memory)
       by_finish (inl (e, delivered)) = inl (record { out = (output_in given.output); answer = given.answer; ends = status_at answer _ e })
-      by_finish (inr (e, failed, front)) = absurd (calm failed)
+      by_finish (inr (e, (failed, front))) = absurd (calm failed)
   finished (inr starved) calm = inr (status_at answer _ starved.0)
 
   -- one without an outcome's status hands no run back
@@ -130,7 +130,7 @@ module _ (o : Options) (before after : SinkState) (text : List ℕ) (answer : An
       by_finish (inl (e, delivered)) =
           run_at answer _ e
           ∙ answer-no_run o text (output_in given.output) given.answer (λ is. none (subst IsOutcome (sym (status_at answer _ e)) is))
-      by_finish (inr (e, failed, front)) = run_at answer _ e
+      by_finish (inr (e, (failed, front))) = run_at answer _ e
   replied-no_run (inr starved) none = run_at answer _ starved.0
 
 -- ---- what a call with options says

@@ -1,5 +1,5 @@
 -- The document of a run, as it is written; and the run of a document, as it is replayed.
-use Rattle.std.specs.Prelude.{◌≡◌, List}
+use Rattle.std.specs.Prelude.{◌≡◌, ℕ, List}
 use Rattle.region_table.specs.Program.{ProgramParts}
 use Rattle.dn_machine.specs.declared.record.RunRecord.{RunRecord}
 use Rattle.run_replay.specs.declared.trace.TraceShape.{TraceShape}

@@ -39,7 +39,7 @@ fn flat_text(alloc: Global, run: &LeastRun) -> Result<Vec<u8>, Memory>
 }
 
 /// Runs a program on one flat memory, and prints its answer and the grants.
-#[tactic(auto, using(crate::proofs::Causes::caused))]
+#[tactic(auto, using(checked_runs::proofs::Causes::caused))]
 fn run_flat(alloc: Global, fuel: u32, checked: &Checked) -> Result<Output, Memory>
     requires least { 1 ≤ fuel }
     requires most { fuel ≤ 32768 }
