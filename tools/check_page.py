@@ -27,14 +27,14 @@ MARK = "@@RUN@@"
 STEPS = """
 <script>
 (()=>{const expected=JSON.parse(document.getElementById('expected').textContent),bad=[];
- const see=(k,how)=>{if(cur!==k||canon(S)!==expected[k])bad.push(how+' '+k);
+ const see=(k,how)=>{if(present!==k||canonical(state)!==expected[k])bad.push(how+' '+k);
   if(k&&!document.getElementById('r'+(k-1)))bad.push('no row '+k);
   if(/undefined|NaN/.test(document.getElementById('side').textContent+document.getElementById('say').textContent))bad.push('undefined '+k)};
  go(0);see(0,'begin');
- for(let k=1;k<=N;k++){document.getElementById('bNext').click();see(k,'next')}
- for(let k=N-1;k>=0;k--){document.getElementById('bBack').click();see(k,'back')}
- for(let i=0;i<50;i++){const k=(i*7919)%(N+1);go(k);see(k,'jump')}
- const p=document.createElement('pre');p.id='verdict';p.textContent=JSON.stringify({events:N,bad:bad.slice(0,20),count:bad.length});document.body.append(p)})();
+ for(let k=1;k<=COUNT;k++){document.getElementById('bNext').click();see(k,'next')}
+ for(let k=COUNT-1;k>=0;k--){document.getElementById('bBack').click();see(k,'back')}
+ for(let i=0;i<50;i++){const k=(i*7919)%(COUNT+1);go(k);see(k,'jump')}
+ const p=document.createElement('pre');p.id='verdict';p.textContent=JSON.stringify({events:COUNT,bad:bad.slice(0,20),count:bad.length});document.body.append(p)})();
 </script>
 """
 
