@@ -144,7 +144,7 @@ QUOTED = {"docs/LIBRARY.md": ("crates/library_tour/src/main.rt", "crates/library
           "docs/TUTORIAL.md": tuple(name for name in examples if "tutorial" in name)}
 for document, sources in QUOTED.items():
     whole = "\n".join(pathlib.Path(source).read_text() for source in sources)
-    for command, block in re.findall(r"^(    \./denovo[^\n]*\n\n)?```\w*\n(.*?)^```$", pathlib.Path(document).read_text(), re.M | re.S):
+    for command, block in re.findall(r"^(    \./(?:denovo|outcomes)[^\n]*\n\n)?```\w*\n(.*?)^```$", pathlib.Path(document).read_text(), re.M | re.S):
         if not command and block not in whole:  # tools/check_programs.py compares what a command prints
             found.append(f"{document}: a block that isn't in {' or '.join(sources)}: {block.split(chr(10))[0]}")
 for name in examples:

@@ -5,8 +5,9 @@ it says how long each part takes.
 
 It looks that the command words are handed on, that each exit code from 0 to 7 comes out, and 9 for words that aren't UTF-8, that a
 run goes by a pipe into its picture, its account, its states and its page, that all are those of tools/reference.py, that explained
-answers are those of tools/explained.txt, that claims are judged as tools/reference.py judges them, that standard error helps, that the
-tutorial and the documents on accounts, states and pages show what their commands print, that the numbers of accounts, of answers to
+answers are those of tools/explained.txt, that claims are judged as tools/reference.py judges them, that what all runs of a text have in
+common is that of tools/outcomes.txt and, on made texts, of tools/reference.py, that standard error helps, that the
+tutorial and the documents on accounts, states and pages show what their commands print, that the numbers of accounts, of lists, of answers to
 exercises and at the heads of examples are those of runs, and that the proved programs are used exactly where they were made of these
 sources. What a run has to write comes from tools/reference.py. It names each check that fails, and ends with a count."""
 import functools
@@ -19,7 +20,7 @@ import time
 TOP = pathlib.Path(__file__).resolve().parent.parent
 os.chdir(TOP)
 sys.dont_write_bytecode = True
-from checking import calls, charts, claimed, explained, shown, told  # noqa: E402
+from checking import calls, charts, claimed, explained, settled, shown, told  # noqa: E402
 from checking.counting import KIND, take  # noqa: E402
 
 # Each part runs in a process of its own, as many at once as there are processors: those that take longest begin first.
@@ -27,16 +28,23 @@ PARTS = [functools.partial(shown.states_are_those_of_the_reference, example, wor
          for example, words, shares in reversed(shown.STATE_RUNS if KIND == "proved" else shown.STATE_RUNS[:3]) for share in range(shares)] + [
     shown.pages_are_those_of_the_reference,
     shown.a_run_without_an_event_has_one_state,
+    shown.a_state_has_as_many_mails_as_may_be,
     shown.accounts_are_those_of_the_reference,
     claimed.claims_of_runs_agree,
     claimed.claims_are_judged,
+    claimed.claims_are_diagnosed,
+    claimed.a_machine_without_a_rule_is_found,
     claimed.claims_are_refused,
     explained.answers_are_explained,
+    explained.remedies_lead_on,
+    explained.texts_are_refused_alike,
     explained.answers_of_other_texts_are_refused,
     explained.answers_before_any_text_are_taken,
     claimed.another_simulator_is_compared,
     claimed.the_largest_claims_are_read,
     charts.each_mode_has_its_own_options,
+    settled.made_texts_have_the_outcomes_of_the_reference,
+    settled.cases_have_their_outcomes,
     calls.words_are_handed_on,
     calls.stored_runs,
     calls.every_exit_code_comes,
@@ -45,11 +53,13 @@ PARTS = [functools.partial(shown.states_are_those_of_the_reference, example, wor
     charts.a_chart_begins_at_an_event,
     calls.standard_error_helps,
     told.pages_show_what_is_printed,
-    told.the_first_page_shows_a_whole_answer,
+    told.the_tutorial_shows_a_whole_answer,
+    told.the_first_page_shows_what_is_printed,
     told.every_command_of_the_exercises_answers,
     told.the_answers_to_exercises_have_the_numbers,
     told.heads_of_examples_say_what_is_printed,
     told.the_page_on_accounts_has_the_numbers,
+    told.the_page_on_lists_has_the_numbers,
 ]
 if KIND == "proved":
     PARTS.append(calls.proved_programs_are_used_where_they_are_those_of_the_sources)

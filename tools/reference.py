@@ -13,6 +13,8 @@ somewhere else to come from. It takes texts that assemble and check; it refuses 
     tools/reference.py account [run|phase|core|region [csv|text]] < DOCUMENT
                                             what the run of a document cost and why, as lines `measure,group,count`, or as the run's
                                             report and a table
+    tools/reference.py lists [run|phase|core|region [csv|text]] < DOCUMENT
+                                            the same of the run beside lists of sharers
     tools/reference.py state [N] < DOCUMENT the state before event N of a document, from 0, and which events may come there, in the lines
                                             of docs/STATE.md
     tools/reference.py chart [--first=N] [--rows=N] [--tick-core=N] [--tick-bank=N] [--tick-mail=N] [--columns=used] < DOCUMENT
@@ -30,6 +32,17 @@ somewhere else to come from. It takes texts that assemble and check; it refuses 
                                             the claim of a run, in the form of docs/COMPARING.md: of the mode run, or in the mode flat by
                                             the least grants
     tools/reference.py judge < CLAIM        whether one thread on one memory does what a claim says, and else where it differs first
+    tools/reference.py diagnose < CLAIM     the same, and what leads from there to the fault
+    tools/reference.py outcomes [--fuel N] < TEXT
+                                            what every run of a text has in common, whatever order its locks are granted in
+    tools/reference.py orders [--fuel N] [--count N] < TEXT
+                                            holds what is settled against N random orders of grants (20) on one memory: `settled`, `open`, or
+                                            what differs
+    tools/reference.py .. --without drop|touched|signatures ..
+                                            the same with a rule of the protocol left out: copies aren't dropped at a Go or a Grant, aren't
+                                            marked, or all copies of a lock's words are dropped at its Grant. That isn't the protocol, and
+                                            standard error says so in its first line. `.. claim --without drop < TEXT | ./referee` finds
+                                            what goes wrong
     tools/reference.py text SIZE            the text that the mode work runs for the size
     tools/reference.py rows                 what a run of the small examples below has to come to, for the seeds 1 to 50
     tools/reference.py --help               this page

@@ -6,6 +6,7 @@ to hold; tools/check_programs.py lists them all.
     charts          pictures of runs, and the options of `view`
     shown           accounts, pages and states, each against tools/reference.py
     claimed         claims of other simulators
+    settled         what all runs of a text have in common
     explained       answers that `explain` explains, refuses or takes
     told            what the documents say that commands print
 """

@@ -3,9 +3,14 @@ import os
 import pathlib
 import shutil
 import tempfile
+import time
 
 import reference
 from .counting import check, programs, run, text_of
+
+
+def text(name):
+    return pathlib.Path(name).read_text()
 
 
 def as_the_reference(words, example):
@@ -44,7 +49,7 @@ def every_exit_code_comes():
         check(f"exit code {status} of {example}", as_the_reference(words, example)[0] == status)
     seeds = [seed for seed in range(1, 20) if reference.answer(["--seed", str(seed)], text_of("crossed-locks").decode())[0] == 5]
     check("exit code 5 of crossed-locks", as_the_reference(["--seed", str(seeds[0])], "crossed-locks")[0] == 5)
-    for name in ("denovo", "view", "referee"):
+    for name in ("denovo", "view", "referee", "outcomes"):
         for program in programs(name):
             label = program[0]
             ran = run(program + ["--help"])
@@ -65,7 +70,7 @@ def every_exit_code_comes():
         wanted = b"refused check phase 0 plain-conflict"
         check(f"{program[0]}: exit code 2", ran.returncode == 2 and ran.stdout.startswith(wanted), ran.stdout)
     for program in programs("view"):
-        for mode in ("chart", "account", "state", "page"):
+        for mode in ("chart", "account", "lists", "state", "page"):
             ran = run(program + ["--mode", mode], b"no document\n")
             check(f"{program[0]} --mode {mode}: exit code 2", (ran.returncode, ran.stdout) == (2, b"refused trace head\n"))
 
@@ -90,6 +95,14 @@ def standard_error_helps():
         wanted = " ".join(["./denovo", *words, "< TEXT | ./explain TEXT"]).encode()
         check(f"explain is named behind {example}", wanted in run(["./denovo", *words], text_of(example)).stderr)
     check("and behind unknown words", b"./explain TEXT" in run(["./denovo", "--sed", "3"]).stderr)
+    document = run(["./denovo", "--mode", "trace"], text_of("store-five")).stdout.replace(b".writes", b".wrotes")
+    for words in (["./view", "--mode", "account"], ["./referee"]):
+        ran = run(words, document)
+        wanted = f"{' '.join(words)} < {'DOCUMENT' if words[0] == './view' else 'CLAIM'} | ./explain TEXT".encode()
+        check(f"explain is named behind {words[0]}", ran.returncode == 2 and wanted in ran.stderr, ran.stderr)
+    for text, words in (("no such file", b"no such file: there is no such file"), ("examples", b"examples is a folder")):
+        ran = run(["./explain", text], b"")
+        check(f"a text that isn't there: {text}", ran.returncode == 6 and words in ran.stderr, ran.stderr)
     document = run(["./denovo", "--mode", "trace"], text_of("store-five")).stdout
     for words in ([], ["--mode", "check"], ["--mode", "replay"]):
         ran = run(["./denovo", *words], document[:-4])
@@ -109,16 +122,32 @@ def proved_programs_are_used_where_they_are_those_of_the_sources():
     check("the proved program is used", which(".") == "proved")
     with tempfile.TemporaryDirectory() as room:
         copy = pathlib.Path(room, "copy")
-        tracked = run(["git", "ls-files", "crates.txt", "tools", "crates/*/src/*", "crates/*/specs/*"]).stdout.decode().split()
+        tracked = run(["git", "ls-files", "crates.txt", "VERSION", "denovo", "tools", "crates/*/src/*", "crates/*/specs/*"]).stdout.decode().split()
         for name in tracked + ["crates/denovo/out/denovo", "crates/denovo/out/denovo.made-of"]:
             (copy / name).parent.mkdir(parents=True, exist_ok=True)
             shutil.copy(name, copy / name)
         check("and in a copy of the folder", which(copy) == "proved")
+        time.sleep(2.5)  # the sums of files that changed a moment ago aren't kept
+        check("and by kept sums", which(copy) == "proved" and (copy / "crates/denovo/out/denovo.sums").exists())
+        check("and where only the sums are looked at", run([f"{copy}/tools/sources", "holds", "denovo"]).returncode == 0)
         for name in ("crates/dn_base/specs/Lib.antt", "crates/dn_base/src/lib.rt", "crates.txt"):
-            before = (copy / name).read_bytes()
-            (copy / name).write_bytes(before + b"\n")
-            check(f"and not where {name} differs in a byte", which(copy) == "none")
+            before, times = (copy / name).read_bytes(), (copy / name).stat()
+            (copy / name).write_bytes(before.replace(b"denovo: dn_top", b"denovo: dn_base") if name == "crates.txt" else before + b"\n")
+            check(f"and not where {name} differs", which(copy) == "none")
+            # as many bytes as before, and the time of the last write set back
+            (copy / name).write_bytes(before[:-2] + b"#\n" if name != "crates.txt" else before.replace(b"denovo: dn_top", b"denovo: dn_tpo"))
+            os.utime(copy / name, ns=(times.st_atime_ns, times.st_mtime_ns))
+            check(f"and not where {name} has another byte, and its old length and time", which(copy) == "none")
             (copy / name).write_bytes(before)
         check("and where a file was only touched", which(copy) == "proved")
+        for name in ("crates/view_top/src/lib.rt", "crates.txt"):
+            (copy / name).write_bytes((copy / name).read_bytes() + b"\n# one_more: dn_base\none_more: dn_base\n")
+        check("and where a crate is added, or one differs that it doesn't stand on", which(copy) == "proved")
+        wanted = str(copy / "crates/denovo/out/denovo")
+        check("its path is told", run([f"{copy}/tools/launch", "--path", "denovo"]).stdout.decode().strip() == wanted)
+        told = run([f"{copy}/tools/launch", "--version", "denovo"]).stdout.decode().split("\n")
+        check("and its version", told[0] == f"denovo {text('VERSION').strip()}, proved" and told[1].startswith("sources "), told)
         (copy / "crates/denovo/out/denovo").write_bytes(b"#!/bin/sh\n")
         check("and not where another program stands in its place", which(copy) == "none")
+        ran = run([f"{copy}/denovo"], b"", env={**os.environ, "DENOVO_REQUIRE": "proved"})
+        check("nothing else runs where the proved program is asked for", (ran.returncode, ran.stdout, ran.stderr.count(b"\n")) == (10, b"", 1), ran.stderr)

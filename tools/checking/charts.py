@@ -53,6 +53,7 @@ def each_mode_has_its_own_options():
     for view in programs("view"):
         for mode, other in (("chart", ["--by", "core", "--form", "csv", "--event", "99"]),
                             ("account", ["--first", "99", "--rows", "7", "--columns", "used", "--tick-bank", "2", "--event", "99"]),
+                            ("lists", ["--first", "99", "--rows", "7", "--columns", "used", "--tick-bank", "2", "--event", "99"]),
                             ("state", ["--first", "99", "--rows", "4097", "--columns", "used", "--tick-bank", "2", "--by", "core", "--form", "csv"]),
                             ("page", ["--columns", "used", "--by", "core", "--form", "csv", "--event", "99"])):
             plain = run([*view, "--mode", mode], document)

@@ -46,6 +46,13 @@ def verdict(claim):
     return status, "".join(line + "\n" for line in lines).encode()
 
 
+@functools.lru_cache(16)
+def diagnosis(claim):
+    """The exit code and the bytes that tools/reference.py says of a claim in the mode diagnose, whose text has a program."""
+    status, lines = reference.diagnosed(claim)
+    return status, "".join(line + "\n" for line in lines).encode("latin-1")
+
+
 def judges(program, document, wanted, words=()):
     ran = run(program + list(words), document)
     check(f"{program[0]} {' '.join(words)}: a document of {len(document)} bytes, at its end {document[-60:]}", (ran.returncode, ran.stdout) == wanted,
@@ -127,11 +134,92 @@ def claims_are_judged():
         judges(program, question + grants, (2, b"refused claim behind\n"), ["--mode", "least"])
         for other in differing(claim) if b"grants 0\n" not in claim else ():
             judges(program, other, verdict(other))
+            judges(program, other, diagnosis(other), ["--mode", "diagnose"])
             front = b"".join(parts(other)[:2]) if b"\noutcome " in other else b""
             if verdict(other)[1].startswith(b"differs grants"):
                 judges(program, front, verdict(other), ["--mode", "answer"])
         for launcher in programs("referee")[1:]:
             judges(launcher, claim, (0, b"agrees\n"))
+
+
+# In the first phase two cores add 5 to a word under a lock; in the second a task ends at once. Each `la` and `li` gives two code words
+DIAGNOSED = b""".version 2
+.region sum, 2
+.lock guard
+.lock other
+.phase
+.task 0, add, 0
+.gwrites guard, sum
+.task 1, add, 0
+.gwrites guard, sum
+.phase
+.task 0, end, 0
+add: la t0, sum
+ li a0, 0
+ li a7, 1
+ ecall
+ lw t1, 0(t0)
+ addi t1, t1, 5
+ sw t1, 0(t0)
+ li a7, 2
+ ecall
+end: li a7, 0
+ ecall
+"""
+
+LOADS = [((0, 0), [(0, 0)]), ((0, 1), [(0, 5)]), ((1, 0), [])]
+ANSWER = ["outcome done", "task 0 0 finished retired 16", "task 0 1 finished retired 16", "task 1 0 finished retired 3", "words 2",
+          "word 0x10000000 0x0000000a"]
+BOTH = [(0, 0, 0), (0, 1, 0)]
+
+# The whole answers of the mode diagnose, by hand: the grants, the loads, the answer, and the lines
+DIAGNOSES = [
+    (BOTH, LOADS, ANSWER, "agrees"),
+    (BOTH, [LOADS[0], ((0, 1), [(0, 7)]), LOADS[2]], ANSWER,
+     "differs load 0 1 0 word 0 value 0x00000005", "earliest 0 1 0 word 0 value 0x00000005", "claimed word 0 value 0x00000007", "name sum[0]",
+     "at 0x0000101c line 16:  lw t1, 0(t0)", "after grants 2", "stored phase 0 core 0 at 0x00001024 line 18:  sw t1, 0(t0)", "holds 0"),
+    (BOTH[::-1], [((0, 0), [(0, 9)]), ((0, 1), [(0, 9)]), LOADS[2]], ANSWER,        # core 1 loads first: the verdict's load isn't the earliest
+     "differs load 0 0 0 word 0 value 0x00000005", "earliest 0 1 0 word 0 value 0x00000000", "claimed word 0 value 0x00000009", "name sum[0]",
+     "at 0x0000101c line 16:  lw t1, 0(t0)", "after grants 1", "stored never", "holds 0"),
+    (BOTH, [LOADS[0], ((0, 1), []), LOADS[2]], ANSWER,
+     "differs load 0 1 0 word 0 value 0x00000005", "earliest 0 1 0 word 0 value 0x00000005", "claimed end", "name sum[0]",
+     "at 0x0000101c line 16:  lw t1, 0(t0)", "after grants 2", "stored phase 0 core 0 at 0x00001024 line 18:  sw t1, 0(t0)", "holds 0"),
+    (BOTH, LOADS[:2] + [((1, 0), [(1, 0)])], ANSWER, "differs load 1 0 0 end", "earliest none"),
+    (BOTH + [(1, 0, 0)], None, ANSWER, "differs grants 2", "because over"),
+    ([(1, 0, 0)], None, ANSWER, "differs grants 0", "because phase 0"),
+    ([(0, 2, 0)], None, ANSWER, "differs grants 0", "because no-task"),
+    ([(0, 0, 0), (0, 0, 0)], None, ANSWER, "differs grants 1", "because ended"),
+    ([(0, 0, 1)], None, ANSWER, "differs grants 0", "because waits 0"),
+    ([(0, 1, 0)], None, ANSWER, "differs grants 1", "because unfinished 0 0"),
+    (BOTH, LOADS[:2], ANSWER, "differs tasks", "tasks 3", "task 1 0"),
+    (BOTH, LOADS + [((1, 1), [])], ANSWER, "differs tasks", "tasks 3", "task 1 1"),
+    (BOTH, [LOADS[0], LOADS[2]], ANSWER, "differs tasks", "tasks 3", "task 0 1"),
+    (BOTH, None, ANSWER[:-1] + ["word 0x10000000 0x0000000b"], "differs answer 5", "word 0x10000000 0x0000000a", "claimed word 0x10000000 0x0000000b"),
+    (BOTH, None, ANSWER[:-1], "differs answer 5", "word 0x10000000 0x0000000a", "claimed nothing"),
+    (BOTH, None, ANSWER + ["word 0x10000004 0x00000001"], "differs answer 6", "claimed word 0x10000004 0x00000001"),
+]
+
+# Core 0 keeps its lock to its end, which traps; core 1 waits for the lock to the end of the run
+HELD = (b".version 2\n.region m, 1\n.lock guard\n.phase\n.task 0, keep, 0\n.gwrites guard, m\n.task 1, keep, 0\n.gwrites guard, m\n"
+        b"keep: li a0, 0\n li a7, 1\n ecall\n li a7, 0\n ecall\n")
+
+
+def claims_are_diagnosed():
+    """The mode diagnose answers each of these claims as it was worked out by hand, and so does tools/reference.py."""
+    program = programs("referee")[0]
+    for grants, loads, answer, *lines in DIAGNOSES:
+        claim = reference.claim_text(DIAGNOSED, 32768, grants, None if loads is None else dict(loads), answer)
+        wanted = (0 if lines == ["agrees"] else 3, "".join(line + "\n" for line in lines).encode())
+        judges(program, claim, wanted, ["--mode", "diagnose"])
+        check(f"{lines[0]}: the same by tools/reference.py", diagnosis(claim) == wanted, diagnosis(claim))
+    claim = reference.claim_text(HELD, 32768, [(0, 0, 0), (0, 1, 0)], None, [])
+    judges(program, claim, (3, b"differs grants 1\nbecause held-by 0\n"), ["--mode", "diagnose"])
+    for bug, name in (("lost-invalidation", "lost-invalidation-2"), ("byte-clobbers-word", "bytes-merged"), ("stale-at-grant", "stale-under-lock"),
+                      ("granted-twice", "lock-handover-2"), ("last-dirty-line", "last-dirty-words")):
+        text = pathlib.Path("examples/litmus", name + ".s").read_bytes()
+        claim = run([sys.executable, "examples/another-simulator/directory.py", "--bug", bug], text).stdout
+        judges(program, claim, diagnosis(claim), ["--mode=diagnose"])
+        check(f"{name}: the bug {bug} is found", diagnosis(claim)[0] == 3, diagnosis(claim))
 
 
 def claims_are_refused():
@@ -198,3 +286,16 @@ def another_simulator_is_compared():
         claim = run([sys.executable, simulator, "--seed", str(seed), "--grant-twice"], text_of("locked-counter")).stdout
         judges(program, claim, verdict(claim))
         check(f"{simulator} --seed {seed} --grant-twice: its bug is found", verdict(claim)[0] == 3, verdict(claim))
+
+
+def a_machine_without_a_rule_is_found():
+    """The claims of the second program's machine with a rule left out: without drops the referee finds a stale read, and else none."""
+    wanted = {("stale-copy", "drop"): "differs load 2 1 0 word 0 value 0x00000009\n", ("signature", "drop"): "differs load 0 0 1 word 0 value 0x00000009\n",
+              ("constants", "touched"): "agrees\n", ("guarded-words", "signatures"): "agrees\n"}
+    for (example, rule), verdict in wanted.items():
+        made = run(["tools/reference.py", "claim", "--without", rule], text_of(example))
+        first = made.stderr.decode().split("\n")[0]
+        check(f"without {rule}, {example}: standard error", made.returncode == 0 and "isn't the protocol" in first, first)
+        for referee in programs("referee"):
+            ran = run(referee, made.stdout)
+            check(f"without {rule}, {example}: {referee[0]}", ran.stdout.decode().startswith(verdict), ran.stdout[:200])

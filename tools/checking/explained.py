@@ -8,23 +8,36 @@ import reference
 from .counting import check, programs, run
 
 
+def mended(text, edits):
+    """A text after edits of its lines, which are numbered from 1: `3 = X` puts X in place of line 3, `3 + X` behind what stands for it,
+    and `3 -` leaves it out. Line 0 stands before all others."""
+    lines = {number: [line] for number, line in enumerate(text.splitlines(), 1)} | {0: []}
+    for edit in edits:
+        number, how, line = re.fullmatch(r"(\d+) ([-+=]) ?(.*)", edit).groups()
+        kept = lines[int(number)]
+        lines[int(number)] = {"-": [], "=": [line] + kept[1:], "+": kept + [line]}[how]
+    return "".join(line + "\n" for number in sorted(lines) for line in lines[number])
+
+
 def explained_cases():
-    """The cases of tools/explained.txt: for each its name, its text, denovo's words, and all that explain has to write. A text may be
-    the file that stands behind `< `, and `{8 x}` stands for eight times x."""
+    """The cases of tools/explained.txt: for each its name, its text, denovo's words, all that explain has to write, and what comes of the
+    remedy: how the next answer begins, and the edits that mend the text; None where the case has none. A text may be the file that stands
+    behind `< `, and `{8 x}` stands for eight times x."""
     def grown(piece):
         return re.sub(r"\{(\d+) (.)\}", lambda found: found[2] * int(found[1]), piece)
 
     for case in re.split(r"^==== ", pathlib.Path("tools/explained.txt").read_text(), flags=re.M)[1:]:
         name, rest = case.split("\n", 1)
-        text, words, output = re.split(r"^----(.*)\n", rest, flags=re.M)
+        text, words, rest = re.split(r"^----(.*)\n", rest, flags=re.M)
         text = pathlib.Path(text[2:-1]).read_text() if text.startswith("< ") else grown(text)
-        yield name, text, words.split(), grown(output)
+        output, *remedy = re.split(r"^\+\+\+\+ ", rest, flags=re.M)
+        yield name, text, words.split(), grown(output), remedy[0].splitlines() if remedy else None
 
 
 def answers_are_explained():
     """Each case: the lines that aren't indented are denovo's answer, and explain puts the others behind them."""
     with tempfile.TemporaryDirectory() as room:
-        for name, text, words, output in explained_cases():
+        for name, text, words, output, _ in explained_cases():
             answer = "".join(line + "\n" for line in output.splitlines() if not line.startswith("  "))
             file = pathlib.Path(room, "a text.s")
             file.write_text(text)
@@ -38,6 +51,39 @@ def answers_are_explained():
     line = "./denovo < examples/trap.s | ./explain examples/trap.s"
     ran = run(["bash", "-c", line])
     check(line, ran.returncode == 0 and b"\n  18 |  sw t1, 8(t0)\n" in ran.stdout, ran.stdout)
+
+
+def remedies_lead_on():
+    """The remedy of each case, applied to its text: the next answer is right, or names another mistake. An effect that is added is the one
+    that the sentences write out, where they write one out, and the answer to the mended text can be explained."""
+    with tempfile.TemporaryDirectory() as room:
+        for name, text, words, output, remedy in explained_cases():
+            if remedy is None:
+                continue
+            wanted, *edits = remedy
+            named = re.findall(r"by `(\.g?(?:reads|writes) [^`]*)`", output)
+            added = [edit.split(" ", 2)[2] for edit in edits if re.match(r"\d+ \+ \.g?(reads|writes) ", edit)]
+            check(f"the remedy of {name} is the one that is named", not named or not added or added == named, (named, added))
+            file = pathlib.Path(room, "a text.s")
+            file.write_text(mended(text, edits))
+            ran = run(programs("denovo")[0] + ["--mode", "flat"], file.read_bytes())
+            check(f"the remedy of {name}", ran.stdout.startswith(wanted.encode()), ran.stdout)
+            again = run(programs("explain")[0] + [str(file)], ran.stdout)
+            check(f"the remedy of {name}, explained", again.returncode == 0 and ran.stdout != output.encode(), again.stdout)
+
+
+def texts_are_refused_alike():
+    """The line with which denovo refuses a text comes too where the text stands in the document of a run or in a claim."""
+    for name, text, words, output, _ in explained_cases():
+        answer, text = output.split("\n", 1)[0].encode() + b"\n", text.encode()
+        if words or len(text) > 1048576 or not answer.startswith((b"refused source ", b"refused check ")):
+            continue
+        document = b"denovo-trace 1\nbanks 4 sets 64 ways 4 fuel 32768\nsource %d\n" % len(text) + text + b"\nevents 0\n"
+        claim = reference.claim_text(text, 32768, [], None, [])
+        for program, data in ((programs("denovo")[0] + ["--mode", "replay"], document), (programs("view")[0], document),
+                              (programs("view")[0] + ["--mode", "state"], document), (programs("referee")[0], claim)):
+            ran = run(program, data)
+            check(f"{' '.join(program)} of {name}", (ran.returncode, ran.stdout) == (2, answer), ran.stdout)
 
 
 def answers_of_other_texts_are_refused():

@@ -1,4 +1,4 @@
-"""What else `view` shows of a run: its account, its page and its states, each against tools/reference.py."""
+"""What else `view` shows of a run: its account, its numbers beside lists, its page and its states, each against tools/reference.py."""
 import pathlib
 import re
 
@@ -7,7 +7,7 @@ from .counting import KIND, check, programs, run, text_of, written
 
 
 def accounts_are_those_of_the_reference():
-    """The accounts of the examples that the check accepts, by each group and in each form, whatever the outcome of the run."""
+    """The accounts and lists of the examples that the check accepts, by each group and in each form, whatever the outcome of the run."""
     examples = [path.stem for path in sorted(pathlib.Path("examples").glob("*.s")) if path.stem != "realistic"]
     shapes = [["--seed", "7"], ["--seed", "3", "--banks", "2", "--sets", "1", "--ways", "1"]]
     denovo, outcomes = programs("denovo")[0], set()
@@ -19,9 +19,10 @@ def accounts_are_those_of_the_reference():
             outcomes.add(ran.returncode)
             for by in ("run", "phase", "core", "region"):
                 for form in ("text", "csv"):
-                    wanted = written(reference.account(ran.stdout, by, form)[1])
-                    seen = run(programs("view")[0] + ["--mode", "account", "--by", by, "--form", form], ran.stdout)
-                    check(f"the account of {example} {' '.join(words)}, by {by}, as {form}", (seen.returncode, seen.stdout) == (0, wanted), seen.returncode)
+                    for mode, second in (("account", reference.account), ("lists", reference.lists)):
+                        wanted = written(second(ran.stdout, by, form)[1])
+                        seen = run(programs("view")[0] + ["--mode", mode, "--by", by, "--form", form], ran.stdout)
+                        check(f"{mode} of {example} {' '.join(words)}, by {by}, as {form}", (seen.returncode, seen.stdout) == (0, wanted), seen.returncode)
     check("accounts of runs of each outcome", outcomes == {0, 3, 4, 5} or KIND != "proved", outcomes)
     for launcher in programs("view")[1:]:
         ran = run(["bash", "-o", "pipefail", "-c", f"./denovo --mode trace < examples/signature.s | {launcher[0]} --mode account --by core"])
@@ -30,7 +31,7 @@ def accounts_are_those_of_the_reference():
     for text in (text_of("conflict"), b"nonsense\n"):
         document = written(reference.document(text.decode(), {"banks": 1, "sets": 1, "ways": 1, "fuel": 1}, []))
         replay = run(denovo + ["--mode", "replay"], document)
-        for mode in ("chart", "account", "state", "page"):
+        for mode in ("chart", "account", "lists", "state", "page"):
             ran = run(programs("view")[0] + ["--mode", mode], document)
             check(f"a refused text, in the mode {mode}", (ran.returncode, ran.stdout) == (2, replay.stdout) and replay.returncode == 2, ran.stdout)
 
@@ -112,3 +113,18 @@ def a_run_without_an_event_has_one_state():
             check(f"{view[0]}: --event {number}, behind the end", (ran.returncode, ran.stdout) == (1, b"refused usage\n"))
         ran = run(view + ["--mode", "state", "--event", "1"], b"no document\n")
         check(f"{view[0]}: what is no document has no state", (ran.returncode, ran.stdout) == (2, b"refused trace head\n"))
+
+
+def a_state_has_as_many_mails_as_may_be():
+    """A script comes to a state with as many mails in flight as may be: for each of two cores one for each of its cache's four entries and one
+    more, and one for the lock."""
+    cases = reference.sections(pathlib.Path("crates/worked_rows/data/scripts.cases").read_text())
+    case = reference.read_case(next(lines for lines in cases if lines[0] == "case as-many-mails-as-may-be"), {})
+    words = [line.split() for line in case["script"][0].decode().splitlines()]
+    before = words[:words.index(["handle", "core", "0", "1"])]
+    events = [reference.event_of(line[:-2] if "times" in line else line) for line in before for _ in range(int(line[-1]) if "times" in line else 1)]
+    shown = written(reference.document(case["text"][0].decode(), reference.options(case["words"].split()), events))
+    for view in programs("view"):
+        ran = run(view + ["--mode", "state", "--event", str(len(events))], shown)
+        mails = [line for line in ran.stdout.splitlines() if line.startswith(b"mail ")]
+        check(f"{view[0]}: as many mails as may be in flight", (ran.returncode, len(mails)) == (0, 2 * (2 * 2 + 1) + 1), ran.stdout)

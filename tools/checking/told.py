@@ -3,7 +3,7 @@ import pathlib
 import re
 
 import reference
-from .counting import check, run, text_of, written
+from .counting import check, programs, run, text_of, written
 
 
 def account_of(example, words, by="run"):
@@ -17,21 +17,21 @@ def account_of(example, words, by="run"):
 
 
 def by_the_reference(command):
-    """What the second program has to say of a command that makes an account, as a text, or shows a state; nothing for other commands."""
-    made = re.fullmatch(r"\./denovo (.*)--mode trace < examples/(\S+)\.s \| \./view --mode (account|state)(?: --(?:by|event) (\w+))?", command)
+    """What the second program has to say of a command that makes an account or lists, as a text, or shows a state; nothing for other commands."""
+    made = re.fullmatch(r"\./denovo (.*)--mode trace < examples/(\S+)\.s \| \./view --mode (account|lists|state)(?: --(?:by|event) (\w+))?", command)
     if not made:
         return None
     document = written(reference.answer(["--mode", "trace"] + made[1].split(), text_of(made[2]).decode())[1])
     if made[3] == "state":
         return written(reference.state(document, int(made[4] or "0"))[1])
-    return written(reference.account(document, made[4] or "run", "text")[1])
+    return written((reference.lists if made[3] == "lists" else reference.account)(document, made[4] or "run", "text")[1])
 
 
 def pages_show_what_is_printed():
     """Each block behind a command of these pages is a part of what the command prints, and for an account of what it has to print."""
-    for page in ("docs/TUTORIAL.md", "docs/ACCOUNT.md", "docs/STATE.md", "docs/PAGE.md", "docs/COMPARING.md"):
+    for page in ("docs/TUTORIAL.md", "docs/ACCOUNT.md", "docs/SHARERS.md", "docs/STATE.md", "docs/PAGE.md", "docs/COMPARING.md"):
         text = pathlib.Path(page).read_text()
-        for command, block in re.findall(r"^    ((?:\./denovo|examples/)[^\n]*)\n\n```\n(.*?)^```$", text, re.M | re.S):
+        for command, block in re.findall(r"^    ((?:\./denovo|\./outcomes|examples/)[^\n]*)\n\n```\n(.*?)^```$", text, re.M | re.S):
             ran = run(["bash", "-c", command])
             check(f"{page}: {command}", block.encode() in ran.stdout, ran.stdout[:300])
             wanted = by_the_reference(command)
@@ -42,14 +42,29 @@ def pages_show_what_is_printed():
             check(f"{page}: {command}", ran.returncode == 0 and ran.stdout.startswith(head))
 
 
-def the_first_page_shows_a_whole_answer():
-    """README explains an answer line by line: its text, its lines and the program's are those of the example."""
-    page = pathlib.Path("README.md").read_text()
+def the_tutorial_shows_a_whole_answer():
+    """The tutorial explains an answer line by line: its text, its lines and the program's are those of the example."""
+    page = pathlib.Path("docs/TUTORIAL.md").read_text()
     shown, printed = (re.search(rf"{before}\n\n((?:    .*\n)+)", page)[1] for before in ("core 1 copies it again in phase 2:", "The program prints"))
     for block, wanted in ((shown, text_of("stale-copy").decode().split("\n")), (printed, reference.answer([], text_of("stale-copy").decode())[1])):
         lines = [re.split("  +", line.strip())[0] for line in block.splitlines()]
         wanted = [line for line in wanted if not line.startswith("#")]
-        check(f"README.md: {lines[0]} and so on", lines == wanted[:len(lines)] and (block is shown or len(lines) == len(wanted)))
+        check(f"docs/TUTORIAL.md: {lines[0]} and so on", lines == wanted[:len(lines)] and (block is shown or len(lines) == len(wanted)))
+
+
+def the_first_page_shows_what_is_printed():
+    """README quotes lines of an answer, and numbers of runs beside lists of sharers: they are those of the second program."""
+    page = pathlib.Path("README.md").read_text()
+    printed = reference.answer([], text_of("stale-copy").decode())[1]
+    for line in re.findall(r"^    ((?:outcome|word|count) .*?)(?:  .*)?$", page, re.M):
+        check(f"README.md: {line}", line in printed)
+    check("README.md: how many lines", f"of the {len(printed)} lines" in page)
+    for row in re.findall(r"^\| `([a-z-]+)`: .*", page, re.M):
+        told = re.search(rf"^\| `{row}`: [^|]*\|(.*)\|$", page, re.M)[1]
+        document = written(reference.answer(["--mode", "trace"], text_of(row).decode())[1])
+        numbers = dict((line.split(",")[0], int(line.split(",")[2])) for line in reference.lists(document, "run")[1][1:])
+        wanted = [numbers[name] for name in ("messages", "list-messages", "list-invalidations", "waits-here-alone")]
+        check(f"README.md: {row} beside lists", [int(cell.replace(",", "")) for cell in told.split("|")] == wanted, wanted)
 
 
 def every_command_of_the_exercises_answers():
@@ -135,3 +150,17 @@ def the_page_on_accounts_has_the_numbers():
     check("docs/ACCOUNT.md: the numbers of its runs", told == wanted, differ)
     measures = re.findall(r"^\| `([a-z-]+)` \| [A-Za-z]", page, re.M)
     check("docs/ACCOUNT.md: what each measure counts", sorted(measures) == sorted(reference.MEASURES), set(measures) ^ set(reference.MEASURES))
+
+
+def the_page_on_lists_has_the_numbers():
+    """The table of docs/SHARERS.md: the numbers of ten runs beside lists, as the program and the second program count them."""
+    page = pathlib.Path("docs/SHARERS.md").read_text()
+    heads, rows = re.search(r"^\| Measure \|(.*`.*)\|\n\|[-|]*\|\n((?:\|.*\n)+)", page, re.M).groups()
+    rows = [[cell.strip(" `") for cell in row.strip("|").split("|")] for row in rows.splitlines()]
+    for place, example in enumerate(heads.replace("`", "").split("|"), 1):
+        document = run(programs("denovo")[0] + ["--mode", "trace"], text_of(example.strip())).stdout
+        for lines in (reference.lists(document, "run")[1], run(programs("view")[0] + ["--mode", "lists", "--form", "csv"], document).stdout.decode().split()):
+            counts = dict(line.split(",run,") for line in lines if ",run," in line)
+            check(f"docs/SHARERS.md: the numbers of {example}", all(counts.get(row[0]) == row[place] for row in rows), counts)
+    measures = re.findall(r"^\| `([a-z-]+)` \| [A-Za-z]", page, re.M)
+    check("docs/SHARERS.md: what each measure counts", sorted(measures) == sorted(reference.LIST_MEASURES), set(measures) ^ set(reference.LIST_MEASURES))

@@ -7,7 +7,8 @@ None imports one that stands below it in this list:
     texts, work                         texts of the language, and the generated one
     task, one_memory, parts, machine    one task; tasks on one memory; cores, banks and keeper; the machine
     prove, ticks, report                the prover of effects; the longest chain; what is written of a run
-    documents, chart, accounts,         the document of a run, and what is shown of one
+    outcomes                            what every run of a text has in common
+    documents, chart, accounts, lists,  the document of a run, and what is shown of one
     state_text, pages
     answers, claims, scripts            the program's answers; claims of other simulators; scripts of events
     cases, small_examples, command      what looks at stored cases and at runs of small texts; the command
@@ -16,12 +17,14 @@ from .accounts import MEASURES, account
 from .answers import answer, opened, options
 from .cases import expanded, read_case, run_cases, sections
 from .chart import Chart
-from .claims import claim, claim_text, judged
+from .claims import claim, claim_text, diagnosed, judged
 from .documents import document, read_document, replayed
 from .isa import decode, instruction_text
 from .kinds import KINDS, ROWS
+from .lists import LIST_MEASURES, lists
 from .machine import Machine, Pcg32
 from .one_memory import flat
+from .outcomes import against, outcomes, outcomes_text
 from .pages import page, state_lines, states
 from .prove import proved
 from .report import STATUS, agree_with_flat, answer_text, count_text, grant_text, outcome, run_text, summary
@@ -34,8 +37,9 @@ from .ticks import longest, ticks_by, timed, timing
 from .work import work_text
 
 __all__ = [
-    "COUNTER", "CROSSED", "Chart", "IDLE", "KINDS", "MARKS", "MEASURES", "Machine", "ONE_PLACE", "PART", "Pcg32", "Program", "ROWS", "SHARED", "STALE",
+    "COUNTER", "CROSSED", "Chart", "IDLE", "KINDS", "LIST_MEASURES", "MARKS", "MEASURES", "Machine", "ONE_PLACE", "PART", "Pcg32", "Program", "ROWS", "SHARED", "STALE",
     "STATUS", "STORE_FIVE", "StateText", "TRAP", "Task", "TaskState", "Unfit", "account", "agree_with_flat", "answer", "answer_text", "assemble", "claim",
-    "claim_text", "count_text", "decode", "document", "event_line", "event_of", "expanded", "flat", "grant_text", "instruction_text", "judged", "longest",
-    "opened", "options", "outcome", "page", "play", "proved", "read_case", "read_document", "replayed", "rows", "run_cases", "run_text", "sections",
+    "against", "claim_text", "count_text", "decode", "diagnosed", "document", "event_line", "event_of", "expanded", "flat", "grant_text", "instruction_text", "judged",
+    "lists", "longest", "opened", "options", "outcome", "outcomes", "outcomes_text", "page", "play", "proved", "read_case", "read_document", "replayed",
+    "rows", "run_cases", "run_text", "sections",
     "state", "state_lines", "statements", "states", "summary", "ticks_by", "timed", "timing", "work_text"]

@@ -6,7 +6,7 @@ from .answers import opened, options
 from .documents import NUMBER
 from .one_memory import flat
 from .report import answer_text, grant_text
-from .texts import Unfit, assemble
+from .texts import Unfit, assemble, code_lines
 
 
 def claim_text(text, fuel, grants, loads, answer):
@@ -24,7 +24,8 @@ def claim_text(text, fuel, grants, loads, answer):
 
 
 def claim(words, text):
-    """The claim of the run that the words ask for: of the machine in the mode run, of the least grants in the mode flat."""
+    """The claim of the run that the words ask for: of the machine in the mode run, of the least grants in the mode flat. Where a rule of the
+    protocol is left out, it is what the machine did, and not what one memory does by the same grants."""
     o = options(words)
     program = assemble(text.decode("latin-1"))
     if o["mode"] == "flat":
@@ -36,6 +37,8 @@ def claim(words, text):
     else:
         raise Unfit("mode")
     ending, loads, used = flat(program, o["fuel"], grants)
+    if o["mode"] == "run" and machine.left_out:
+        ending, loads = machine.ending(), {task: machine.loads.get(task, []) for task in loads}
     return claim_text(text, o["fuel"], used, loads, answer_text(ending))
 
 
@@ -107,3 +110,64 @@ def judged(data):
     alike = next((at for at, (a, b) in enumerate(zip(claimed, answer)) if a != b), min(len(claimed), len(answer)))
     at = answer[:alike].count(b"\n")
     return 3, ["differs answer %d" % at] + answer_text(ending)[at:at + 1]
+
+
+def at_text(text, pc):
+    """An instruction by its address, and by its line of the text."""
+    line, _ = code_lines(text.decode("latin-1"))[(pc - 0x1000) // 4]
+    return "at 0x%08x line %d: %s" % (pc, line, text.decode("latin-1").split("\n")[line - 1])
+
+
+def load_text(load):
+    return "word %d value 0x%08x" % load if load else "end"
+
+
+def earliest_text(text, program, acts, claimed):
+    """The lines on the first load that is claimed wrongly, in the order in which one thread makes its loads."""
+    for place, access in enumerate(acts):
+        if access is None or access[0] == "store":
+            continue
+        _, phase, core, pc, held, number, word, value = access
+        seen = claimed.get((phase, core), [])[number:number + 1]
+        if seen != [(word, value)]:
+            break
+    else:
+        return ["earliest none"]
+    name, start = next((name, start) for name, (start, length) in program.regions.items() if start <= word < start + length)
+    stores = [before for before in acts[:place] if before and before[0] == "store" and before[6] == word]
+    return ["earliest %d %d %d %s" % (phase, core, number, load_text((word, value))),
+            "claimed " + load_text(seen[0] if seen else None),
+            "name %s[%d]" % (name, word - start),
+            at_text(text, pc),
+            "after grants %d" % acts[:place].count(None),
+            "stored phase %d core %d %s" % (*stores[-1][1:3], at_text(text, stores[-1][3])) if stores else "stored never",
+            ] + ["holds %d" % lock for lock in held]
+
+
+def task_text(claimed, right):
+    """The first task at which the two rows of tasks differ: it is lacking, or it is too much."""
+    place = next((at for at, (a, b) in enumerate(zip(claimed, right)) if a != b), min(len(claimed), len(right)))
+    return "task %d %d" % min(claimed[place:place + 1] + right[place:place + 1])
+
+
+def diagnosed(data):
+    """The exit code and the lines of `judged`, and behind them those that lead from the verdict to the fault."""
+    status, lines = judged(data)
+    if status != 3:
+        return status, lines
+    fuel, text, grants, loads, answer = read_claim(data)
+    program, why, acts = assemble(text.decode("latin-1")), [], []
+    run = flat(program, fuel, grants, None, why, acts)
+    kind = lines[0].split()[1]
+    if kind == "grants":
+        lines += ["because " + why[0]]
+    elif kind == "tasks":
+        lines += ["tasks %d" % len(run[1]), task_text([task for task, _ in loads], sorted(run[1]))]
+    elif kind == "load":
+        lines += earliest_text(text, program, acts, dict(loads))
+    else:
+        rows = answer.split(b"\n")
+        rows = rows[:-1] if rows[-1] == b"" else rows
+        at = int(lines[0].split()[2])
+        lines += ["claimed " + (rows[at].decode("latin-1") if at < len(rows) else "nothing")]
+    return status, lines

@@ -6,7 +6,10 @@ from .accounts import account
 from .answers import answer, opened, options
 from .cases import run_cases
 from .chart import Chart
-from .claims import claim, judged
+from .claims import claim, diagnosed, judged
+from .lists import lists
+from .machine import LEFT_OUT, Machine
+from .outcomes import against, outcomes_text
 from .pages import page, states
 from .report import STATUS, agree_with_flat, outcome, run_text
 from .scripts import event_line, play
@@ -33,8 +36,19 @@ def main(page_of_help):
         return 9
 
 
+def leave_out(words):
+    """Has all machines leave out the rule that the words name, says so, and gives the other words."""
+    at = words.index("--without")
+    rule = words[at + 1]
+    print("tools/reference.py: this isn't the protocol: %s" % LEFT_OUT[rule], file=sys.stderr, flush=True)
+    Machine.left_out = rule
+    return words[:at] + words[at + 2:]
+
+
 def command(words):
     """Does what the words ask for, and gives the exit code."""
+    if "--without" in words:
+        words = leave_out(words)
     if words[:1] == ["rows"]:
         return 0 if rows() else 1
     if words[:1] == ["cases"]:
@@ -42,13 +56,23 @@ def command(words):
     if words[:1] == ["text"]:
         print(work_text(int(words[1])), end="")
         return 0
-    if words[:1] == ["judge"]:
-        status, out = judged(sys.stdin.buffer.read())
+    if words[:1] in (["judge"], ["diagnose"]):
+        status, out = (judged if words[0] == "judge" else diagnosed)(sys.stdin.buffer.read())
         print("".join(line + "\n" for line in out), end="")
         return status
     if words[:1] == ["claim"]:
         sys.stdout.buffer.write(claim(words[1:], sys.stdin.buffer.read()))
         return 0
+    if words[:1] in (["outcomes"], ["orders"]):
+        fuel = int(dict(zip(words[1::2], words[2::2])).get("--fuel", "32768"))
+        program = assemble(sys.stdin.read())
+        if words[0] == "outcomes":
+            status, out = outcomes_text(program, fuel)
+        else:
+            differ = against(program, fuel, int(dict(zip(words[1::2], words[2::2])).get("--count", "20")))
+            status, out = (0, ["open"]) if differ is None else (1 if differ else 0, differ or ["settled"])
+        print("".join(line + "\n" for line in out), end="")
+        return status
     if words[:1] == ["events"]:
         o = options(words[1:])
         opened(assemble(sys.stdin.read()), o).run(o["seed"], lambda event: print(event_line(event)))
@@ -60,9 +84,9 @@ def command(words):
         chart = Chart(sys.stdin.buffer.read(), int(o["first"]), int(o["rows"]), ticks, o["columns"] == "used")
         print(chart.text(), end="")
         return 0
-    if words[:1] == ["account"]:
+    if words[:1] in (["account"], ["lists"]):
         by, form = words[1:3] + ["run", "csv"][len(words[1:3]):]
-        status, out = account(sys.stdin.buffer.read(), by, form)
+        status, out = (account if words[0] == "account" else lists)(sys.stdin.buffer.read(), by, form)
         print("".join(line + "\n" for line in out), end="")
         return status
     if words[:1] == ["state"]:

@@ -5,6 +5,11 @@ from .kinds import KINDS
 from .parts import Bank, Keeper, Node
 
 
+# The rules that can be left out, and what the machine then does.
+LEFT_OUT = {"drop": "no copy is dropped at a Go or a Grant", "touched": "no copy is marked when it is read",
+            "signatures": "a Grant drops all copies of the words that the lock guards"}
+
+
 class Pcg32:
     """The generator PCG XSH RR 64/32, with the seed's 16 bytes filled from a number of 64 bits by the same output function."""
 
@@ -36,7 +41,10 @@ class Pcg32:
 
 class Machine:
     """The machine. A mail is (sender, number, to, message); an event is (instr, core), (evict, core, word), (arrive, core) or
-    (handle, sender, number)."""
+    (handle, sender, number). With a rule left out it isn't the protocol's machine any more: see LEFT_OUT."""
+
+    # the rule that every machine leaves out, if one is left out
+    left_out = None
 
     def __init__(self, program, banks=4, sets=64, ways=4, fuel=32768):
         self.program, self.banks, self.sets, self.ways, self.fuel = program, banks, sets, ways, fuel

@@ -116,7 +116,8 @@ class Node:
                 reach("core: load of a copy" if entry[0] == "V" else "core: load of an own word")
                 seen = word, entry[1]
                 is_plain = word in task.decl.reads or word in task.decl.writes
-                self.set(word, (entry[0], entry[1], True) if entry[0] == "V" and is_plain else entry)
+                marks = is_plain and self.machine.left_out != "touched"
+                self.set(word, (entry[0], entry[1], True) if entry[0] == "V" and marks else entry)
                 task.loaded(entry[1])
                 self.wait = None
             else:
@@ -165,7 +166,7 @@ class Node:
                 for places in self.cache:
                     for word, entry in list(places.items()):
                         if entry[0] == "V":
-                            if word in written and not entry[2]:
+                            if word in written and not entry[2] and self.machine.left_out != "drop":
                                 del places[word]
                             else:
                                 places[word] = ("V", entry[1], False)
@@ -185,7 +186,8 @@ class Node:
             before = sum(map(len, self.cache))
             for places in self.cache:
                 for word, entry in list(places.items()):
-                    if entry[0] == "V" and word in guarded and may_hold(signature, word, self.phase):
+                    held = may_hold(signature, word, self.phase) or self.machine.left_out == "signatures"
+                    if entry[0] == "V" and word in guarded and held and self.machine.left_out != "drop":
                         del places[word]
             reach("core: grant that drops copies" if sum(map(len, self.cache)) < before else "core: grant that drops none")
             self.signatures[lock] = signature if signature[1] == self.phase else (0, self.phase)

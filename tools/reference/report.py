@@ -46,7 +46,9 @@ def summary(ending):
 
 
 def agree_with_flat(machine):
-    """That the flat machine's run by the grants has the run's ending and loads."""
+    """That the flat machine's run by the grants has the run's ending and loads, unless a rule of the protocol is left out."""
+    if machine.left_out:
+        return
     other = flat(machine.program, machine.fuel, machine.grants)
     loads = {task: seen for task, seen in other[1].items() if seen}
     assert machine.ending()[0] == other[0][0] and machine.ending()[1] == other[0][1] and machine.loads == loads

@@ -1,4 +1,6 @@
 pub mod Agreement
+pub mod Diagnoses
+pub mod DiagnosisLemmas
 pub mod Forms
 pub mod Found
 pub mod Fronts

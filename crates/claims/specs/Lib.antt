@@ -1,5 +1,8 @@
 pub mod Alone
 pub mod Claim
+pub mod Diagnosis
+pub mod DiagnosisLaws
+pub mod DiagnosisText
 pub mod Differences
 pub mod Faults
 pub mod Judge

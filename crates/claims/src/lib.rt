@@ -6,6 +6,10 @@ mod alike;
 mod alone;
 mod claim;
 mod claim_writing;
+mod diagnosing;
+mod diagnosis;
+mod diagnosis_laws;
+mod diagnosis_writing;
 mod document_laws;
 mod head;
 mod judge_laws;
@@ -22,6 +26,10 @@ mod verdict_writing;
 pub use alone::{read_order, read_question};
 pub use claim::{Claim, ClaimFault, ClaimTextError, GrantOrder, Question};
 pub use claim_writing::claim_text;
+pub use diagnosing::diagnose;
+pub use diagnosis::{Diagnosis, TaskName, WrongLoad};
+pub use diagnosis_laws::{no_store_comes_between, the_earliest_wrong_load_is_the_first};
+pub use diagnosis_writing::push_diagnosis;
 pub use document_laws::{a_document_is_of_one_claim, bytes_have_one_fault};
 pub use judge_laws::{
     a_claim_agrees_where_its_run_does, a_claim_has_one_verdict,

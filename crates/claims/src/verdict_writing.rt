@@ -19,7 +19,7 @@ fn push_place(out: &mut Vec<u8>, place: LoadPlace) -> Result<(), Memory>
 
 /// Adds the load that stands at a place, or `end` where there is none.
 #[tactic(auto, unfolding(crate::specs::Verdict::load_text))]
-fn push_load(out: &mut Vec<u8>, load: Option<LoadSeen>) -> Result<(), Memory>
+pub(crate) fn push_load(out: &mut Vec<u8>, load: Option<LoadSeen>) -> Result<(), Memory>
     ensures { OnOk result (out.new.items ≡ out.old.items ++ load_text load) }
 {
     match load {

@@ -63,7 +63,7 @@ pub record-verdict : (P : ProgramParts) (machine : Shape) (fuel : ℕ) (r : RunR
 record-verdict P machine fuel r C c is of told = run_agrees P c (record-agrees P machine fuel r C c is of told)
 
 -- a text's run on the machine of this shape
-abbrev HasRun : List ℕ → (ProgramParts → Shape) → ℕ → RunRecord → Type 0
+abbrev pub HasRun : List ℕ → (ProgramParts → Shape) → ℕ → RunRecord → Type 0
 HasRun text shape_of fuel r = HasChecked text (λ P. IsRunOf P (shape_of P) fuel r)
 
 text-agrees : (text : List ℕ) (shape_of : ProgramParts → Shape) (fuel : ℕ) (r : RunRecord) (c : Claim) → HasRun text shape_of fuel r → IsClaimOfRunOf text shape_of fuel r c
@@ -95,7 +95,7 @@ claim-of text shape_of fuel r ran = (
 
 -- ---- a mode's run
 
-abbrev ran_in : Mode → Options → List ℕ → RunRecord → Type 0
+abbrev pub ran_in : Mode → Options → List ℕ → RunRecord → Type 0
 ran_in mode.TheVariants.Replay o document r = HasTrace document (λ t. HasRun t.text (λ P. shape_told P t.shape) t.shape.fuel r)
 ran_in m o text r = HasRun text (λ P. shape_for P o) o.fuel r
 
@@ -208,7 +208,7 @@ call-made o text call r h = by_end h.answered.ends
         record { out = done.out; done = done.done; run = sym done.run ∙ h.run; took = done.took }
     by_end (inr refused) = absurd (some-none r call.answer.run (h.answered.serves.no_run (refused-no_outcome call.answer.status refused)) h.run)
 
-call-ran : (o : Options) (text : List ℕ) (call : Call) (r : RunRecord) → HandedBack o text call r → ran_in o.mode o text r
+pub call-ran : (o : Options) (text : List ℕ) (call : Call) (r : RunRecord) → HandedBack o text call r → ran_in o.mode o text r
 call-ran o text call r h = let did = call-made o text call r h in mode-ran o.mode o text did.out r did.done did.run
 
 call-agrees : (o : Options) (text : List ℕ) (call : Call) (r : RunRecord) (c : Claim) → HandedBack o text call r → claims_run_in o.mode o text r c → HasChecked c.question.text (λ P. AgreesWithRun P c)

@@ -1,5 +1,6 @@
 pub mod Agreeing
 mod Calls
+mod CommonRuns
 mod Ends
 mod HandedBack
 mod Holders

@@ -1,4 +1,5 @@
 pub mod Claims
+pub mod CommonRuns
 pub mod HandedBack
 pub mod Holding
 pub mod Taken

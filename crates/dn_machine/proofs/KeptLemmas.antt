@@ -18,14 +18,14 @@ bit-most false = omega arith
 
 few-rounds : (S : State) (made : ℕ) → IsKept S made → S.setting.shape.cores * rounds S ≤ 1040
 few-rounds S made kept =
-    let few : rounds S ≤ 65 = omega (arith, kept.sound.within, kept.sound.machine.program.phases, bit-most (all_arrived S.keeper)) in
+    let few : rounds S ≤ 65 = omega (arith, kept.sound.within, kept.left.ready.program.phases, bit-most (all_arrived S.keeper)) in
     mul-le-mul kept.most few
 
 pub whole-kept : (S : State) (made : ℕ) → IsKept S made → made < 4000000000 → IsWhole S
 whole-kept S made kept few =
     let letters = few-rounds S made kept in
     record {
-      context = kept.sound.machine.context;
+      context = kept.left.ready.context;
       cores = kept.sound.machine.nodes;
       some = kept.some;
       most = kept.most;

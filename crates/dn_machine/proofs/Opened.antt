@@ -11,6 +11,7 @@ use Rattle.phase_barrier.specs.Barrier.{Barrier, initial_barrier}
 use Rattle.machine_rules.specs.State.{State, initial_state}
 use Rattle.machine_rules.specs.Sound.{IsReady}
 use Rattle.machine_rules.proofs.OpenedSound.{opened-machine}
+use Rattle.machine_rules.proofs.AnySize.{well-formed}
 use Rattle.dn_machine.specs.Kept.{IsKept}
 use Rattle.dn_machine.proofs.LeftLemmas.{left-first, kept-left}
 
@@ -22,7 +23,9 @@ opened-from C nodes banks keeper mails numbers memory locks phases m l p ns bs k
 
 pub opened-nodes-fit : (C : Setting) → IsContext C → IsProgram C.program → IsChecked C.program → (core : ℕ) (n : NodeParts) → slice_get (map (initial_node C) (range_with_len 0 C.shape.cores)) core ≡ Some n → Fits C n
 unfolding initial_state
-opened-nodes-fit C context program checked core n here = ((opened-machine C context program checked).node core n here).fits
+opened-nodes-fit C context program checked core n here =
+    let well = well-formed C (record { context = context; program = program; checked = checked }) in
+    ((opened-machine C well.context well.program well.checked).node core n here).fits
 
 pub kept-first : (C : Setting) → IsReady C → IsKept (initial_state C) 0
 kept-first C ready = kept-left (initial_state C) 0 (left-first C ready)

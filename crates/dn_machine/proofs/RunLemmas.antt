@@ -23,6 +23,7 @@ use Rattle.machine_rules.proofs.InProgramOrder.{run-sequential}
 use Rattle.machine_rules.proofs.RaceFree.{run-race_free}
 use Rattle.machine_rules.proofs.RunsCoherent.{run-coherent, run-shows, run-loads, run-rests}
 use Rattle.machine_rules.proofs.OpenedSound.{opened-sound}
+use Rattle.machine_rules.proofs.AnySize.{well-formed}
 use Rattle.machine_rules.proofs.BoundRuns.{run-few, run-ends}
 use Rattle.machine_rules.specs.Bound.{retired_in, started_in}
 use Rattle.run_agreement.proofs.PrefixAgrees.{prefix-agrees}
@@ -166,9 +167,9 @@ fronts-true C events ready run front rest parts =
 pub fronts-agree : (C : Setting) (events : List Event) → IsReady C → IsRun (initial_state C) events → OfEachFront (AgreesAfter C) events
 fronts-agree C events ready run front rest parts = prefix-agrees C front ready (front-run (initial_state C) front rest (subst (IsRun (initial_state C)) parts run))
 
--- a sound state is of a ready setting
-pub ready-of : (S : State) (made : ℕ) → IsSound S made → IsReady S.setting
-ready-of S made sound = record { context = sound.machine.context; program = sound.machine.program; checked = sound.machine.checked }
+-- a machine's setting is within the limits
+pub ready-of : (S : State) (made : ℕ) → IsKept S made → IsReady S.setting
+ready-of S made kept = kept.left.ready
 
 -- ---- a run ends
 
@@ -176,7 +177,7 @@ ready-of S made sound = record { context = sound.machine.context; program = soun
 pub way-few : (C : Setting) (seed : ℕ) (g : Lcg) (T : State) (log : Log) → IsReady C → IsOnTheWay C seed g T log → length log.events ≤ 25169664
 way-few C seed g T log ready way =
     run-ends C log.events ready
-    (picked-run (initial_state C) 0 (generator_of seed) log.events (opened-sound C ready.context ready.program ready.checked) way.picked)
+    (picked-run (initial_state C) 0 (generator_of seed) log.events (opened-sound C (well-formed C ready)) way.picked)
 
 -- all that is promised of a complete run and its record
 pub complete-run-of : (C : Setting) (r : RunRecord) → IsReady C → IsCompleteRun (initial_state C) r.events → IsRecord (initial_state C) r → IsCoherentRun (initial_state C) r
@@ -203,5 +204,5 @@ complete-run-of C r ready complete is =
 pub run-of : (C : Setting) (seed : ℕ) (T : State) (log : Log) (ending : Ending) → IsReady C → HasRun (initial_state C) seed T log → ending ≡ noted_ending log.ends T
     → IsSeedsRunOf (initial_state C) seed (recorded log ending)
 run-of C seed T log ending ready run is =
-    let complete = picked-complete (initial_state C) 0 (generator_of seed) log.events (opened-sound C ready.context ready.program ready.checked) run.scheduled in
+    let complete = picked-complete (initial_state C) 0 (generator_of seed) log.events (opened-sound C (well-formed C ready)) run.scheduled in
     record { scheduled = run.scheduled; run = complete-run-of C (recorded log ending) ready complete (record-true C seed T log ending ready.program run is) }

@@ -240,6 +240,34 @@ impl Machine {
         let context = context_of(&decoded, &plans, shape, fuel);
         run_from_start(alloc, &context, content, seed)
     }
+
+    /// Runs a copy of this machine as it was when a run began, as `run` does. The machine stays as it is, so that its program can be used
+    /// again. The program, its plans and its decoded code aren't copied.
+    ///
+    /// # Errors
+    /// `Memory` if there is no room for what the copy changes, for its mails or the record.
+    pub fn run_copy(&self, alloc: Global, seed: u32) -> Result<RunRecord, Memory>
+        ensures { IfOk result (IsSeedsRunOf (initial_state self.now.state.setting) seed) }
+    {
+        let content = opened(alloc, &self.decoded, &self.plans, self.shape, self.fuel)?;
+        let context = context_of(&self.decoded, &self.plans, self.shape, self.fuel);
+        run_from_start(alloc, &context, content, seed)
+    }
+
+    /// Sets the machine back to where a run begins, so that other events can be made on it. The program, its plans and its decoded code
+    /// stay.
+    ///
+    /// # Errors
+    /// `Memory` if there is no room; the machine is as before then.
+    pub fn reset(&mut self, alloc: Global) -> Result<(), Memory>
+        ensures state { OnOk result (self.new.state ≡ initial_state self.old.state.setting) }
+        ensures made { OnOk result (self.new.made ≡ 0) }
+        ensures err { OnErr result (self.new ≡ self.old) }
+    {
+        self.content = opened(alloc, &self.decoded, &self.plans, self.shape, self.fuel)?;
+        self.made = 0;
+        Ok(())
+    }
 }
 
 /// Every machine is left by a run of the initial machine of a checked program, except for the order of its mails. So it has 1

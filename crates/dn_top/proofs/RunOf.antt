@@ -25,7 +25,7 @@ module _ (P : ProgramParts) (o : Options) (m : Made) (r : RunRecord) where
   at-opened : (Holds : State → Type 0) → IsInitialMachine P (shape_for P o) o.fuel m → Holds m.state → Holds (initial_state m.state.setting)
   at-opened Holds at h = subst Holds at.state h
 
-  asked-for : IsInitialMachine P (shape_for P o) o.fuel m → IsKept m.state m.made → IsSettingOf P (shape_for P o) o.fuel m.state.setting
+  pub asked-for : IsInitialMachine P (shape_for P o) o.fuel m → IsKept m.state m.made → IsSettingOf P (shape_for P o) o.fuel m.state.setting
   asked-for at kept =
       record {
         program = at.program_is;
@@ -53,13 +53,17 @@ module _ (P : ProgramParts) (o : Options) (m : Made) (r : RunRecord) where
   pub is-printable : IsInitialMachine P (shape_for P o) o.fuel m → IsKept m.state m.made → IsRecord m.state r → HasFlatEnd m.state.setting r.events → length r.counts.kinds ≡ 17
       → length r.events < 18446744073709551616 → IsPrintable r
   is-printable at kept is flat kinds few =
-      can-print P (shape_for P o) o.fuel m.state.setting r kept.sound.machine.program (at-opened (λ S. IsRecord S r) at is) flat kinds few
+      can-print P (shape_for P o) o.fuel m.state.setting r kept.left.ready.program (at-opened (λ S. IsRecord S r) at is) flat kinds few
 
   -- the events are within the limits of a document
   pub all-told : IsInitialMachine P (shape_for P o) o.fuel m → IsKept m.state m.made → IsRun m.state r.events → All FitsDocument r.events
   all-told at kept run =
-      run-told m.state.setting r.events (ready-of m.state m.made kept.sound) kept.most (at-opened (λ S. IsRun S r.events) at run)
+      run-told m.state.setting r.events (ready-of m.state m.made kept) kept.most (at-opened (λ S. IsRun S r.events) at run)
 
 -- the machine was opened in the shape of the checked program
 pub at_shape : (P Q : ProgramParts) (o : Options) (s : Shape) (m : Made) → IsInitialMachine P s o.fuel m → s ≡ shape_for Q o → Q ≡ P → IsInitialMachine P (shape_for P o) o.fuel m
 at_shape P Q o s m at is same = subst (λ (s : Shape). IsInitialMachine P s o.fuel m) (is ∙ ap (λ (p : ProgramParts). shape_for p o) same) at
+
+-- the machine was opened for its own program
+pub at-own : (P : ProgramParts) (o : Options) (m : Made) → IsInitialMachine P (shape_for P o) o.fuel m → IsInitialMachine m.state.setting.program (shape_for m.state.setting.program o) o.fuel m
+at-own P o m at = subst (λ (p : ProgramParts). IsInitialMachine p (shape_for p o) o.fuel m) (sym at.program_is) at

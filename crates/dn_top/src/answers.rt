@@ -14,6 +14,7 @@ ghost use Rattle.run_report.specs.Texts.{HasChecked, HasProgram, IsNoProgram, Is
 use crate::documents::{replay_document, trace_run};
 use crate::output::{Output, ended};
 use crate::runs::{report_run, run_alone, sum_up_run, time_text_run};
+use crate::timings::time_alone;
 use crate::workers::run_by_workers;
 use command_words::{Mode, Options};
 use dn_base::{Gate, Memory, Outcome, Status};
@@ -151,16 +152,6 @@ fn trace_alone(alloc: Global, options: &Options, text: &[u8]) -> Result<Output, 
 {
     let run = run_alone(alloc, options, text)?;
     Ok(trace_run(alloc, options, text, run)?)
-}
-
-/// Runs the program of a text on this thread alone, and times the run.
-fn time_alone(alloc: Global, options: &Options, text: &[u8]) -> Result<Output, Stop>
-    requires { OptionsInRange options.now }
-    ensures done { IfOk result (λ out. HasChecked text.now (λ P. IsTimedRun P (with_one_worker options.now) out)) }
-    ensures stop { IfErr result (IsStop (IsUnfit text.now)) }
-{
-    let run = run_alone(alloc, options, text)?;
-    time_text_run(alloc, options, text, run)
 }
 
 /// What each mode does with a text, on this thread alone.

@@ -23,6 +23,7 @@ mod program;
 mod reading;
 mod runs;
 mod serving;
+mod timings;
 mod workers;
 
 pub use command_words::{Mode, Options, WordsFault, read_words};

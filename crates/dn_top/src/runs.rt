@@ -101,7 +101,7 @@ pub(crate) fn sum_up_run(alloc: Global, run: RunRecord) -> Result<Output, Memory
 }
 
 /// The ticks that the options give to each kind of event.
-fn ticks_of(options: &Options) -> Ticks
+pub(crate) fn ticks_of(options: &Options) -> Ticks
     requires { OptionsInRange options.now }
     ensures value { result ≡ ticks_for options.now }
     ensures limits { AreWithinLimits result }
@@ -110,7 +110,7 @@ fn ticks_of(options: &Options) -> Ticks
 }
 
 /// Sums up how a run ended, and then tells its timing.
-fn timed_text(alloc: Global, ending: &Ending, timing: &Timing) -> Result<Vec<u8>, Memory>
+pub(crate) fn timed_text(alloc: Global, ending: &Ending, timing: &Timing) -> Result<Vec<u8>, Memory>
     requires words { length ending.now.memory ≤ 65536 }
     requires tasks { length ending.now.tasks ≤ 64 }
     ensures { IfOk result (λ text. text.items ≡ summary_of ending.now ++ timing_of timing.now) }

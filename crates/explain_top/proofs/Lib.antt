@@ -1,2 +1,2 @@
 mod Commands
-mod Starved
+pub mod Starved

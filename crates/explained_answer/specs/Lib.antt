@@ -6,5 +6,4 @@ pub mod Holders
 pub mod Lines
 pub mod Listing
 pub mod Parts
-pub mod Quotes
 pub mod Trace

@@ -19,6 +19,8 @@ use Rattle.explained_answer.specs.declared.line.Count as count
 use Rattle.explained_answer.specs.declared.line.Count.{Count}
 use Rattle.explained_answer.specs.AnswerLines.{IsAnswerLine, answer_line}
 use Rattle.dn_base.specs.declared.ids.Grant.{Grant}
+use Rattle.dn_base.specs.declared.status.Outcome.{Outcome}
+use Rattle.dn_base.specs.declared.status.Outcome.TheVariants.{Stuck}
 use Rattle.explained_answer.specs.declared.reading.ReadLine.{ReadLine}
 use Rattle.explained_answer.specs.declared.reading.ReadAnswer.{ReadAnswer}
 use Rattle.explained_answer.specs.declared.reading.ReadAnswer as read_answer
@@ -61,10 +63,18 @@ unproven_at text task None = []
 abbrev pub unproven_text : List ℕ → Places → ℕ → ℕ → ℕ → List ℕ
 unproven_text text places phase core pc = unproven_at text (find (is_task_of phase core) places.tasks) (code_place_at places pc)
 
+unfoldable pub stuck_text : List ℕ
+stuck_text = codes "  If a task below trapped or is out of fuel, mend that first: it keeps the locks that it holds.\n"
+
+-- what is said of the outcome: where tasks wait for locks, which task is to be looked at first
+abbrev pub outcome_text : Outcome → List ℕ
+outcome_text Stuck = stuck_text
+outcome_text _ = []
+
 -- what is said after a line: for a task that didn't finish, why; for an instruction, where it stands; otherwise the names of
 -- words and locks. `holder` is the core that holds the lock for which the line's task waits, if the answer tells that
 abbrev pub sentences_behind : List ℕ → Located → Option ℕ → AnswerLine → List ℕ
-sentences_behind text l holder (line.TheVariants.Outcome o) = []
+sentences_behind text l holder (line.TheVariants.Outcome o) = outcome_text o
 sentences_behind text l holder (line.TheVariants.Task t) = ending_text text l holder t
 sentences_behind text l holder (line.TheVariants.Word word value) = named_word l word
 sentences_behind text l holder (line.TheVariants.Grant g) = named_lock l g.lock.0

@@ -12,7 +12,6 @@ mod listing;
 mod long;
 mod numbers;
 mod programs;
-mod quotes;
 mod reading;
 mod refusals;
 mod taken;

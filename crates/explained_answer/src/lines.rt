@@ -1,18 +1,18 @@
 //! The lines of the answer of a run.
 ghost use Rattle.std.specs.Prelude.{◌≡◌, ◌++◌, All, OnOk, IfOk};
+ghost use Rattle.sentences.specs.Quotes.{AreSpans};
 ghost use Rattle.explained_answer.specs.AnswerLines.{answer_line};
-ghost use Rattle.explained_answer.specs.Lines.{named_word, named_lock, which_line, declared_there, task_there, the_instruction, stands_there, instruction_there, unproven_text, sentences_behind, lines_and_sentences, IsLineOf, IsWritten, lines_in};
+ghost use Rattle.explained_answer.specs.Lines.{named_word, named_lock, which_line, declared_there, task_there, the_instruction, stands_there, instruction_there, unproven_text, stuck_text, outcome_text, sentences_behind, lines_and_sentences, IsLineOf, IsWritten, lines_in};
 
 use crate::AnswerLine;
 use crate::holders::{holder_on, last_grants};
 use crate::reading::ReadLine;
-use dn_base::Memory;
-use sentences::{code_place_at, push_ending};
+use dn_base::{Memory, Outcome};
+use sentences::{code_place_at, line_spans, push_ending, push_line};
+use src_text::Span;
 use std::alloc::Global;
 use text_pieces::{push, push_decimal};
-use text_places::{
-    CodePlace, Located, Places, TaskPlace, push_code_place, push_lock, push_quoted_line, push_word,
-};
+use text_places::{CodePlace, Located, Places, TaskPlace, push_code_place, push_lock, push_word};
 
 #[tactic(auto, unfolding(crate::specs::Lines::named_word))]
 fn push_named_word(out: &mut Vec<u8>, located: &Located, word: u32) -> Result<(), Memory>
@@ -66,43 +66,54 @@ fn push_the_instruction(out: &mut Vec<u8>) -> Result<(), Memory>
 }
 
 #[tactic(auto, unfolding(crate::specs::Lines::stands_there))]
-fn push_stands_there(out: &mut Vec<u8>, text: &[u8], place: CodePlace) -> Result<(), Memory>
+fn push_stands_there(
+    out: &mut Vec<u8>,
+    text: &[u8],
+    spans: &[Span],
+    place: CodePlace,
+) -> Result<(), Memory>
+    requires { AreSpans text.now spans.now }
     ensures { OnOk result (out.new.items ≡ out.old.items ++ stands_there text.now place) }
 {
     push(out, b" at ")?;
     push_code_place(out, place)?;
     push(out, b":\n  ")?;
-    push_quoted_line(out, text, place.line)
+    push_line(out, text, spans, place.line)
 }
 
 /// Adds where an instruction of a task stands.
 fn push_instruction_there(
     out: &mut Vec<u8>,
     text: &[u8],
+    spans: &[Span],
     task: Option<TaskPlace>,
     place: CodePlace,
 ) -> Result<(), Memory>
+    requires { AreSpans text.now spans.now }
     ensures { OnOk result (out.new.items ≡ out.old.items ++ instruction_there text.now task place) }
 {
     push_the_instruction(out)?;
     push_task_there(out, task)?;
-    push_stands_there(out, text, place)
+    push_stands_there(out, text, spans, place)
 }
 
 /// Adds where the instruction stands that the prover names.
 fn push_unproven(
     out: &mut Vec<u8>,
     text: &[u8],
+    spans: &[Span],
     places: &Places,
     task: (u32, u32),
     pc: u32,
 ) -> Result<(), Memory>
+    requires { AreSpans text.now spans.now }
     ensures { OnOk result (out.new.items ≡ out.old.items ++ unproven_text text.now places.now task.0 task.1 pc) }
 {
     match code_place_at(places, pc) {
         Some(place) => push_instruction_there(
             out,
             text,
+            spans,
             places.task(task.0 as usize, task.1),
             place,
         ),
@@ -110,24 +121,47 @@ fn push_unproven(
     }
 }
 
+#[tactic(auto, unfolding(crate::specs::Lines::stuck_text))]
+fn push_stuck(out: &mut Vec<u8>) -> Result<(), Memory>
+    ensures { OnOk result (out.new.items ≡ out.old.items ++ stuck_text) }
+{
+    push(
+        out,
+        b"  If a task below trapped or is out of fuel, mend that first: it keeps the locks that it holds.\n",
+    )
+}
+
+/// Adds what is said of the outcome.
+fn push_outcome(out: &mut Vec<u8>, outcome: Outcome) -> Result<(), Memory>
+    ensures { OnOk result (out.new.items ≡ out.old.items ++ outcome_text outcome) }
+{
+    match outcome {
+        Outcome::Stuck => push_stuck(out),
+        Outcome::Done | Outcome::Trapped | Outcome::Fuel => Ok(()),
+    }
+}
+
 /// Adds what is said after a line of an answer. `holder` is the core that holds the lock for which the line's task waits.
 fn push_sentences(
     out: &mut Vec<u8>,
     text: &[u8],
+    spans: &[Span],
     located: &Located,
     line: AnswerLine,
     holder: Option<u32>,
 ) -> Result<(), Memory>
+    requires { AreSpans text.now spans.now }
     ensures { OnOk result (out.new.items ≡ out.old.items ++ sentences_behind text.now located.now holder line) }
 {
     match line {
-        AnswerLine::Outcome(_) => Ok(()),
-        AnswerLine::Task(task) => push_ending(out, text, located, task, holder),
+        AnswerLine::Outcome(outcome) => push_outcome(out, outcome),
+        AnswerLine::Task(task) => push_ending(out, text, spans, located, task, holder),
         AnswerLine::Word { word, value: _ } => push_named_word(out, located, word),
         AnswerLine::Grant(grant) => push_named_lock(out, located, grant.lock.0),
         AnswerLine::Unbounded { phase, core, pc } => push_unproven(
             out,
             text,
+            spans,
             &located.places,
             (phase, core),
             pc,
@@ -145,16 +179,18 @@ fn push_sentences(
 fn push_explained(
     out: &mut Vec<u8>,
     text: &[u8],
+    spans: &[Span],
     located: &Located,
     line: AnswerLine,
     written: &[u8],
     holder: Option<u32>,
 ) -> Result<(), Memory>
-    requires { written.now ≡ answer_line line }
+    requires spans { AreSpans text.now spans.now }
+    requires written { written.now ≡ answer_line line }
     ensures { OnOk result (out.new.items ≡ out.old.items ++ (answer_line line ++ sentences_behind text.now located.now holder line)) }
 {
     push(out, written)?;
-    push_sentences(out, text, located, line, holder)
+    push_sentences(out, text, spans, located, line, holder)
 }
 
 /// Explains the lines of an answer, one after the other.
@@ -169,10 +205,20 @@ pub(crate) fn explained_lines(
     ensures { IfOk result (λ out. out.items ≡ lines_and_sentences text.now located.now (lines_in lines.now)) }
 {
     let last = last_grants(alloc, located, lines)?;
+    let found = line_spans(alloc, text)?;
+    let spans = found.as_slice();
     let mut out = Vec::new(alloc);
     for read in lines {
         let holder = holder_on(last.as_slice(), read.line);
-        push_explained(&mut out, text, located, read.line, read.written, holder)?;
+        push_explained(
+            &mut out,
+            text,
+            spans,
+            located,
+            read.line,
+            read.written,
+            holder,
+        )?;
     }
     Ok(out)
 }

@@ -1,14 +1,14 @@
 //! The listing of a program, explained beside its text.
 ghost use Rattle.std.specs.Prelude.{◌≡◌, ◌++◌, map, OnOk, IfOk};
 ghost use Rattle.src_text.specs.Line.{cut};
-ghost use Rattle.explained_answer.specs.Quotes.{AreSpans, span_bytes};
+ghost use Rattle.sentences.specs.Quotes.{AreSpans, span_bytes};
 ghost use Rattle.explained_answer.specs.Listing.{given_by, second_given_by, word_said, code_said, said_of_row, explained_from, explained_lines, explained_listing, IsListingTaken};
 
 use crate::fronts::{alike, line_behind};
-use crate::quotes::{line_spans, push_quoted_line};
 use crate::taken::Taken;
 use dn_base::Memory;
 use rv_listing::listing;
+use sentences::{line_spans, push_line};
 use src_text::Span;
 use std::alloc::Global;
 use text_pieces::push;
@@ -21,7 +21,7 @@ fn push_given_by(out: &mut Vec<u8>, text: &[u8], spans: &[Span], line: u32) -> R
     ensures { OnOk result (out.new.items ≡ out.old.items ++ given_by text.now line) }
 {
     push(out, b"  ")?;
-    push_quoted_line(out, text, spans, line)
+    push_line(out, text, spans, line)
 }
 
 /// Adds the line of the text that gives a code word as its second one.
@@ -36,7 +36,7 @@ fn push_second_given_by(
     ensures { OnOk result (out.new.items ≡ out.old.items ++ second_given_by text.now line) }
 {
     push(out, b"  second word of line ")?;
-    push_quoted_line(out, text, spans, line)
+    push_line(out, text, spans, line)
 }
 
 fn push_word_said(

@@ -6,10 +6,13 @@ pub mod Frames
 pub mod Separation
 pub mod RunLemmas
 pub mod Rest
+pub mod ActionLemmas
+pub mod FaultLemmas
 pub mod CauseLemmas
 pub mod SegmentLaws
 pub mod SettleLaws
 pub mod KeptLaws
+pub mod InOrder
 pub mod ReachedLaws
 pub mod StartLaws
 pub mod LegalLaws

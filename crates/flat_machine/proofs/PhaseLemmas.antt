@@ -32,7 +32,7 @@ run-more P fuel phase i ds d m done s within e =
 
 -- ---- the next phase
 
-cond-some : {X : Type 0} (b : Bool) (o : Option X) (x : X) → (if b then o else None) ≡ Some x → (b ≡ true) × (o ≡ Some x)
+pub cond-some : {X : Type 0} (b : Bool) (o : Option X) (x : X) → (if b then o else None) ≡ Some x → (b ≡ true) × (o ≡ Some x)
 cond-some true o x e = (refl, e)
 cond-some false o x e = absurd (none-some x e)
 

@@ -10,7 +10,7 @@ use Rattle.std.proofs.lemmas.Option.{none-some, same_Some, slice_get_within, sli
 use Rattle.dn_base.specs.declared.ids.Grant.{Grant}
 use Rattle.dn_base.specs.declared.ids.LockId.{LockId}
 use Rattle.dn_base.specs.declared.ids.PhaseId.{PhaseId}
-use Rattle.region_table.specs.Program.{ProgramParts, IsPhase, IsProgram, tasks_of}
+use Rattle.region_table.specs.Program.{ProgramParts, IsProgram, tasks_of}
 use Rattle.region_table.specs.declared.declared.TaskDecl.{TaskDecl}
 use Rattle.region_table.specs.declared.declared.Phase.{Phase}
 use Rattle.rv_core.specs.declared.need.Need.{Need}
@@ -19,7 +19,8 @@ use Rattle.rv_core.specs.Step.{advanced}
 use Rattle.flat_machine.specs.Step.{Started, At, fresh, wish, in_state, segment}
 use Rattle.flat_machine.specs.Phases.{Flat, all_tasks, run_all, begin, settled, initial_flat}
 use Rattle.flat_machine.specs.Grants.{is_free, grant_of, grant_by, is_grant, can_take, go_on, with_task, resumed, granted_at, granted, granted_if, grants_from, so_far}
-use Rattle.flat_machine.specs.Laws.{IsLater, StandsLater, AreLater, HasTasks, HasFront}
+use Rattle.flat_machine.specs.Laws.{AreCoresRising, IsLater, StandsLater, AreLater, HasTasks, HasFront}
+use Rattle.flat_machine.proofs.InOrder.{in-order}
 use Rattle.flat_machine.proofs.GrantLemmas.{same-grant, grants-none}
 use Rattle.flat_machine.proofs.SegmentLaws.{same-later, later-itself, later-more, segment-later}
 use Rattle.flat_machine.proofs.SettleLaws.{IsFront, settled-front}
@@ -145,7 +146,7 @@ decls-rising tasks ds e rising i j d before within =
 none-pairs : (tasks : List Started) → tasks ≡ [] → AllPairs (λ (a b : Started). a.decl.core.0 < b.decl.core.0) tasks
 none-pairs tasks e i j d before within = let z : length tasks ≡ 0 = ap length e in absurd (omega arith)
 
-tasks-rising : (P : ProgramParts) (F : Flat) → IsProgram P → HasTasks P F → AllPairs (λ (a b : Started). a.decl.core.0 < b.decl.core.0) F.tasks
+tasks-rising : (P : ProgramParts) (F : Flat) → AreCoresRising P → HasTasks P F → AllPairs (λ (a b : Started). a.decl.core.0 < b.decl.core.0) F.tasks
 tasks-rising P F is h = by_begun F.begun refl
   where
     by_begun : (n : ℕ) → F.begun ≡ n → AllPairs (λ (a b : Started). a.decl.core.0 < b.decl.core.0) F.tasks
@@ -156,11 +157,14 @@ tasks-rising P F is h = by_begun F.begun refl
         let default : Phase = record { tasks = [] } in
         let p : Phase = get_or P.phases k default in
         let one : F.begun ≡ k + 1 = omega arith in
-        let well : IsPhase (length P.memory) (length P.locks) p = is.each_phase k default within in
-        decls-rising F.tasks p.tasks (h.last k p one (slice_get-get_or P.phases k default within)) well.rising
+        decls-rising F.tasks p.tasks (h.last k p one (slice_get-get_or P.phases k default within)) (is k default within)
 
+pub reached-order : (P : ProgramParts) (fuel : ℕ) (gs : List Grant) (F : Flat) → AreCoresRising P → so_far P fuel gs ≡ Some F → AllPairs (λ (a b : Started). a.decl.core.0 < b.decl.core.0) F.tasks
+reached-order P fuel gs F order e = tasks-rising P F order (reached-tasks P fuel gs F e)
+
+-- the same of a program within the limits
 pub reached-rising : (P : ProgramParts) (fuel : ℕ) (gs : List Grant) (F : Flat) → IsProgram P → so_far P fuel gs ≡ Some F → AllPairs (λ (a b : Started). a.decl.core.0 < b.decl.core.0) F.tasks
-reached-rising P fuel gs F is e = tasks-rising P F is (reached-tasks P fuel gs F e)
+reached-rising P fuel gs F is e = reached-order P fuel gs F (in-order P is) e
 
 -- ---- a grant to a task that waits for a free lock
 

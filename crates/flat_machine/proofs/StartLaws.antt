@@ -2,14 +2,15 @@
 use Rattle.std.proofs.Common.{◌≡◌, ℕ, zero, suc, ◌<◌, true, false, List, [], ◌∷◌, length, map, get_or, slice_index, refl, sym, ap, ◌∙◌, subst, arith}
 use Rattle.std.specs.List.{All, AllPairs, IsAmong}
 use Rattle.std.proofs.lemmas.Bool.{false≢true}
-use Rattle.region_table.specs.Program.{ProgramParts, IsPhase, IsProgram}
+use Rattle.region_table.specs.Program.{ProgramParts}
 use Rattle.region_table.specs.declared.declared.TaskDecl.{TaskDecl}
 use Rattle.region_table.specs.declared.declared.Phase.{Phase}
 use Rattle.rv_core.specs.Access.{is_held, may_store}
 use Rattle.effect_checker.specs.Checked.{IsChecked}
 use Rattle.flat_machine.specs.Step.{Started, At, fresh}
 use Rattle.flat_machine.specs.Phases.{run_all}
-use Rattle.flat_machine.specs.Laws.{at_memory, first_segment, StartAlone}
+use Rattle.flat_machine.specs.Laws.{AreCoresRising, at_memory, first_segment, StartAlone}
+use Rattle.flat_machine.proofs.InOrder.{known-order}
 use Rattle.flat_machine.proofs.Rights.{store-loads}
 use Rattle.flat_machine.proofs.Frames.{Agree, KeepsOut, segment-frame, segment-alike, segment-size, agree-after, no-store}
 use Rattle.flat_machine.proofs.Separation.{keeps-out}
@@ -105,10 +106,9 @@ decls-apart P p phase checked among rising i j e before within =
     same-default (x ∷ xs) zero e inside = refl
     same-default (x ∷ xs) (suc k) e inside = same-default xs k e (omega arith)
 
-pub start-alone : (P : ProgramParts) (fuel phase : ℕ) (p : Phase) (m : List ℕ) → IsProgram P → IsChecked P → IsAmong P.phases p → length m ≡ length P.memory → StartAlone P fuel phase p.tasks m
-start-alone P fuel phase p m is checked among in_m =
-    let well : IsPhase (length P.memory) (length P.locks) p = subst (IsPhase (length P.memory) (length P.locks)) (sym among.1.1) (is.each_phase among.0 p among.1.0) in
-    let apart = decls-apart P p phase checked among well.rising in
+pub start-alone : (P : ProgramParts) (fuel phase : ℕ) (p : Phase) (m : List ℕ) → AreCoresRising P → IsChecked P → IsAmong P.phases p → length m ≡ length P.memory → StartAlone P fuel phase p.tasks m
+start-alone P fuel phase p m order checked among in_m =
+    let apart = decls-apart P p phase checked among (known-order P p order among) in
     let same : CanTell phase p.tasks m m = λ k e within. record { on = λ w may. refl } in
     record {
       each = run-each P fuel phase p.tasks m m in_m in_m apart same;

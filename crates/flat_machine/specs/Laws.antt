@@ -1,6 +1,6 @@
 -- What the laws of the flat machine, in src/laws.rt, speak of.
 use Rattle.std.specs.Prelude.{◌≡◌, ◌≢◌, ℕ, ◌+◌, ◌<◌, ◌≤◌, Bool, true, false, List, [], ◌++◌, length, map, take, slice_get, slice_index, Option, Some, None}
-use Rattle.std.specs.List.{All, Any, IsAmong}
+use Rattle.std.specs.List.{All, AllPairs, Any, IsAmong}
 use Rattle.dn_base.specs.declared.ids.Grant.{Grant}
 use Rattle.dn_base.specs.declared.ids.LoadSeen.{LoadSeen}
 use Rattle.dn_base.specs.declared.ids.LockId.{LockId}
@@ -19,6 +19,10 @@ use Rattle.flat_machine.specs.Phases.{Flat, all_tasks, run_all}
 use Rattle.flat_machine.specs.Grants.{grants_from, so_far, grants_are_whole}
 use Rattle.rv_core.specs.Ending.{is_waiting, is_trapped, outcome_of}
 use Rattle.flat_machine.specs.Ending.{shown_of, flat_ends_of, flat_loads_of}
+
+-- in each phase of a program the tasks stand in rising order of their cores, so that a core has at most one
+abbrev pub AreCoresRising : ProgramParts → Type 0
+AreCoresRising P = All (λ (p : Phase). AllPairs (λ (a b : TaskDecl). a.core.0 < b.core.0) p.tasks) P.phases
 
 abbrev pub at_memory : Started → List ℕ → At
 at_memory r m = record { task = r; memory = m }

@@ -1,4 +1,6 @@
 pub mod Step
+pub mod Accesses
+pub mod Faults
 pub mod Phases
 pub mod Grants
 pub mod Ending

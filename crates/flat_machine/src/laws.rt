@@ -5,7 +5,7 @@ ghost use Rattle.std.specs.List.{All, AllPairs, Any, IsAmong};
 ghost use Rattle.dn_base.specs.declared.ids.Grant.{Grant};
 ghost use Rattle.dn_base.specs.declared.ids.LockId.{LockId};
 ghost use Rattle.dn_base.specs.declared.status.Outcome.TheVariants.{Done, Fuel, Stuck};
-ghost use Rattle.region_table.specs.Program.{ProgramParts, IsProgram};
+ghost use Rattle.region_table.specs.Program.{ProgramParts};
 ghost use Rattle.region_table.specs.declared.declared.Phase.{Phase};
 ghost use Rattle.rv_core.specs.Access.{may_load, may_store};
 ghost use Rattle.rv_core.specs.declared.ending.TaskEnd.{TaskEnd};
@@ -18,7 +18,7 @@ ghost use Rattle.flat_machine.specs.Grants.{is_free, grant_of, go_on, with_task,
 ghost use Rattle.rv_core.specs.Ending.{is_waiting};
 ghost use Rattle.flat_machine.specs.Ending.{flat_end_of, flat_end};
 ghost use Rattle.flat_machine.specs.LockOrder.{IsLockOrder};
-ghost use Rattle.flat_machine.specs.Laws.{at_memory, EndsSegment, AgreeOn, IsAlike, HoldsLess, IsLater, HoldApart, SameInEitherOrder, HasUsedUp, IsOutOfFuel, IsHeldUp, HasTasks, HasFront, StartAlone, IsEnded, IsLegal};
+ghost use Rattle.flat_machine.specs.Laws.{AreCoresRising, at_memory, EndsSegment, AgreeOn, IsAlike, HoldsLess, IsLater, HoldApart, SameInEitherOrder, HasUsedUp, IsOutOfFuel, IsHeldUp, HasTasks, HasFront, StartAlone, IsEnded, IsLegal};
 
 /// A segment changes only words that its task may store with the locks that it holds at the start. It acquires no lock.
 pub fn a_segment_keeps_other_words()
@@ -76,7 +76,7 @@ pub fn one_more_grant_is_one_step()
 /// current phase stand in rising order of their cores.
 pub fn the_tasks_of_a_run_are_its_phases()
     ensures tasks { (P : ProgramParts) (fuel : ℕ) (gs : List Grant) (F : Flat) → so_far P fuel gs ≡ Some F → HasTasks P F }
-    ensures rising { (P : ProgramParts) (fuel : ℕ) (gs : List Grant) (F : Flat) → IsProgram P → so_far P fuel gs ≡ Some F → AllPairs (λ (a b : Started). a.decl.core.0 < b.decl.core.0) F.tasks }
+    ensures rising { (P : ProgramParts) (fuel : ℕ) (gs : List Grant) (F : Flat) → AreCoresRising P → so_far P fuel gs ≡ Some F → AllPairs (λ (a b : Started). a.decl.core.0 < b.decl.core.0) F.tasks }
 {}
 
 /// After a list of grants, a further one is legal exactly if it names the current phase, a core whose task waits for the lock,
@@ -88,7 +88,7 @@ pub fn a_grant_is_legal_where_its_task_waits_for_a_free_lock()
 
 /// A grant of a free lock to a task that wants it is legal, and only that task runs on by it.
 pub fn a_task_can_take_the_free_lock_that_it_wants()
-    ensures { (P : ProgramParts) (fuel : ℕ) (gs : List Grant) (F : Flat) (i : ℕ) (r : Started) (lock : LockId) → IsProgram P → so_far P fuel gs ≡ Some F
+    ensures { (P : ProgramParts) (fuel : ℕ) (gs : List Grant) (F : Flat) (i : ℕ) (r : Started) (lock : LockId) → AreCoresRising P → so_far P fuel gs ≡ Some F
         → slice_get F.tasks i ≡ Some r → wish P fuel r ≡ Some (Acquire lock) → is_free F.tasks lock.0 ≡ true
         → granted P fuel (grant_of r lock) F ≡ Some (settled P fuel (with_task F i (go_on P fuel r F.memory))) }
 {}
@@ -102,7 +102,7 @@ pub fn a_front_of_a_list_has_a_value()
 /// The first segments in a phase of a checked program can each start from the memory with which the phase begins. Each task
 /// gets the state that it gets alone, and the words that it may store have the values that it leaves.
 pub fn first_segments_start_from_one_memory()
-    ensures { (P : ProgramParts) (fuel phase : ℕ) (p : Phase) (m : List ℕ) → IsProgram P → IsChecked P → IsAmong P.phases p → length m ≡ length P.memory
+    ensures { (P : ProgramParts) (fuel phase : ℕ) (p : Phase) (m : List ℕ) → AreCoresRising P → IsChecked P → IsAmong P.phases p → length m ≡ length P.memory
         → StartAlone P fuel phase p.tasks m }
 {}
 

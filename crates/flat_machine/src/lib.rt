@@ -4,14 +4,19 @@
 //! It has no caches and no messages. It is the reference with which runs of the multicore machine are compared.
 #![tactic(auto)]
 
+mod accesses;
 mod ending;
+mod faults;
 mod laws;
 mod machine;
 mod refused;
 mod running;
 mod runs;
+mod traced;
 
+pub use accesses::{AccessKind, FlatAccess, FlatAction};
 pub use ending::{FlatEnd, TaskLoads};
+pub use faults::{GrantFault, fault_of_grants};
 pub use laws::{
     a_front_of_a_list_has_a_value, a_grant_is_legal_where_its_task_waits_for_a_free_lock,
     a_segment_adds_loads_and_gives_locks_up, a_segment_comes_to_rest, a_segment_keeps_other_words,
@@ -25,3 +30,4 @@ pub use laws::{
 };
 pub use refused::{FlatRun, a_list_of_grants_comes_to_one_thing, flat_run};
 pub use runs::{LeastRun, flat, least_grants, least_run};
+pub use traced::flat_actions;

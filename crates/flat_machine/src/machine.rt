@@ -5,8 +5,10 @@ ghost use Rattle.rv_core.specs.Decoded.{IsDecoded};
 ghost use Rattle.flat_machine.specs.Step.{At, Started, segment, in_state, room, IsWithin, WantsLock};
 ghost use Rattle.flat_machine.specs.Phases.{Flat, Ran, run_all, begin, has_finished, next_phase, settled, initial_flat, initial, work, IsSoundFlat};
 ghost use Rattle.flat_machine.specs.Grants.{is_free, grant_by, grant_for, is_grant, can_take, first_grant, next_grant, resumed, granted, grants_from, IsStoppedAt, IsLeastFrom};
+ghost use Rattle.flat_machine.specs.Accesses.{with_actions, run_actions, begin_actions, settled_actions, initial_actions, resumed_actions, granted_actions, grants_actions};
 ghost use Rattle.flat_machine.specs.Ending.{flat_end_of, flat_ends_of, task_loads};
 
+use crate::accesses::{FlatAction, note};
 use crate::ending::{FlatEnd, TaskLoads, push_ends, push_loads};
 use crate::running::{Running, start};
 use dn_base::{Grant, LockId, Memory, PhaseId, Sequence};
@@ -19,11 +21,11 @@ use std::marker::Model;
 #[derive(Drop)]
 pub(crate) struct Machine<'a> {
     /// How many phases have begun.
-    begun: u32,
+    pub(crate) begun: u32,
     /// The tasks of the phases before the last one that has begun.
     past: Vec<Running<'a>>,
     /// The tasks of the last phase that has begun, in the order of their cores.
-    tasks: Vec<Running<'a>>,
+    pub(crate) tasks: Vec<Running<'a>>,
     /// The data words.
     memory: Vec<u32>,
 }
@@ -45,12 +47,14 @@ fn run_all<'a>(
     phase: PhaseId,
     tasks: &'a [TaskDecl],
     memory: &mut Vec<u32>,
+    log: &mut Option<Sequence<FlatAction>>,
 ) -> Result<Vec<Running<'a>>, Memory>
     requires code { IsDecoded program.now code.now }
     requires fuel { fuel ≤ 32768 }
     requires words { length memory.old.items ≡ length program.now.memory }
     ensures value { IfOk result (λ ran. let all : Ran = record { tasks = ran.items; memory = memory.new.items } in
         all ≡ run_all program.now fuel phase.0 tasks.now memory.old.items) }
+    ensures log { IfOk result (λ ran. log.new ≡ with_actions log.old (run_actions program.now fuel phase.0 tasks.now memory.old.items)) }
     ensures words { length memory.new.items ≡ length program.now.memory }
     ensures within { IfOk result (λ ran. All (IsWithin fuel) ran.items) }
     ensures count { IfOk result (λ ran. length ran.items ≡ length tasks.now) }
@@ -59,7 +63,7 @@ fn run_all<'a>(
     let mut ran = Vec::new(alloc);
     for task in tasks {
         let mut running = start(alloc, phase, task);
-        running.segment(program, code, fuel, memory)?;
+        running.segment(program, code, fuel, memory, log)?;
         ran.push(running)?;
     }
     Ok(ran)
@@ -202,12 +206,14 @@ impl<'a> Machine<'a> {
         code: &DecodedCode,
         fuel: u32,
         phase: &'a Phase,
+        log: &mut Option<Sequence<FlatAction>>,
     ) -> Result<(), Memory>
         requires code { IsDecoded program.now code.now }
         requires fuel { fuel ≤ 32768 }
         requires words { length self.old.memory ≡ length program.now.memory }
         requires begun { self.old.begun < 64 }
         ensures value { IfOk result (λ done. self.new ≡ begin program.now fuel phase.now self.old) }
+        ensures log { IfOk result (λ done. log.new ≡ with_actions log.old (begin_actions program.now fuel phase.now self.old)) }
         ensures words { IfOk result (λ done. length self.new.memory ≡ length program.now.memory) }
         ensures within { IfOk result (λ done. All (IsWithin fuel) self.new.tasks) }
         ensures count { IfOk result (λ done. length self.new.tasks ≡ length phase.now.tasks) }
@@ -222,6 +228,7 @@ impl<'a> Machine<'a> {
             PhaseId(self.begun),
             phase.tasks.as_slice(),
             &mut self.memory,
+            log,
         )?;
         self.begun += 1;
         Ok(())
@@ -236,37 +243,41 @@ impl<'a> Machine<'a> {
         program: &'a Program,
         code: &DecodedCode,
         fuel: u32,
+        log: &mut Option<Sequence<FlatAction>>,
     ) -> Result<(), Memory>
         requires code { IsDecoded program.now code.now }
         requires fuel { fuel ≤ 32768 }
         requires sound { IsSoundFlat program.now fuel self.old }
         ensures value { IfOk result (λ done. self.new ≡ settled program.now fuel self.old) }
+        ensures log { IfOk result (λ done. log.new ≡ with_actions log.old (settled_actions program.now fuel self.old)) }
         ensures sound { IfOk result (λ done. IsSoundFlat program.now fuel self.new) }
         ensures work { IfOk result (λ done. work program.now fuel self.new ≤ work program.now fuel self.old) }
     {
         'phases: while let Some(phase) = self.next_phase(program) {
-            self.begin(alloc, program, code, fuel, phase)?;
+            self.begin(alloc, program, code, fuel, phase, log)?;
         }
         Ok(())
     }
 
     /// The machine before any grant.
-    #[tactic(auto, unfolding(crate::specs::Phases::initial_flat))]
+    #[tactic(auto, unfolding(crate::specs::Phases::initial_flat, crate::specs::Accesses::initial_actions))]
     pub(crate) fn open(
         alloc: Global,
         program: &'a Program,
         code: &DecodedCode,
         fuel: u32,
+        log: &mut Option<Sequence<FlatAction>>,
     ) -> Result<Machine<'a>, Memory>
         requires code { IsDecoded program.now code.now }
         requires fuel { fuel ≤ 32768 }
         ensures value { IfOk result (λ machine. machine ≡ initial_flat program.now fuel) }
+        ensures log { IfOk result (λ machine. log.new ≡ with_actions log.old (initial_actions program.now fuel)) }
         ensures sound { IfOk result (IsSoundFlat program.now fuel) }
         ensures locks { length program.now.locks ≤ 32 }
         ensures words { length program.now.memory ≤ 65536 }
     {
         let mut machine = Machine::initial(alloc, program)?;
-        machine.settle(alloc, program, code, fuel)?;
+        machine.settle(alloc, program, code, fuel, log)?;
         Ok(machine)
     }
 
@@ -277,6 +288,7 @@ impl<'a> Machine<'a> {
         code: &DecodedCode,
         fuel: u32,
         place: usize,
+        log: &mut Option<Sequence<FlatAction>>,
     ) -> Result<(), Memory>
         requires code { IsDecoded program.now code.now }
         requires fuel { fuel ≤ 32768 }
@@ -284,18 +296,19 @@ impl<'a> Machine<'a> {
         requires place { place < length self.old.tasks }
         requires wants { HoldsAt (WantsLock program.now fuel) self.old.tasks place }
         ensures value { IfOk result (λ done. self.new ≡ resumed program.now fuel self.old place (slice_get self.old.tasks place)) }
+        ensures log { IfOk result (λ done. log.new ≡ with_actions log.old (resumed_actions program.now fuel self.old (slice_get self.old.tasks place))) }
         ensures sound { IfOk result (λ done. IsSoundFlat program.now fuel self.new) }
         ensures work { IfOk result (λ done. work program.now fuel self.new < work program.now fuel self.old) }
     {
         let running = &mut self.tasks[place];
         running.acquire(program, fuel);
-        running.segment(program, code, fuel, &mut self.memory)?;
+        running.segment(program, code, fuel, &mut self.memory, log)?;
         Ok(())
     }
 
     /// Gives a lock to the task that can take this grant. The task runs its next segment, and phases begin as they may. Returns
     /// whether the grant was legal; if it wasn't, nothing has changed.
-    #[tactic(auto, unfolding(crate::specs::Grants::granted))]
+    #[tactic(auto, unfolding(crate::specs::Grants::granted, crate::specs::Accesses::granted_actions))]
     pub(crate) fn grant(
         &mut self,
         alloc: Global,
@@ -303,6 +316,7 @@ impl<'a> Machine<'a> {
         code: &DecodedCode,
         fuel: u32,
         given: Grant,
+        log: &mut Option<Sequence<FlatAction>>,
     ) -> Result<bool, Memory>
         requires code { IsDecoded program.now code.now }
         requires fuel { fuel ≤ 32768 }
@@ -311,14 +325,16 @@ impl<'a> Machine<'a> {
         ensures legal { result ≡ Ok true → granted program.now fuel given self.old ≡ Some self.new }
         ensures illegal { result ≡ Ok false → granted program.now fuel given self.old ≡ None }
         ensures kept { result ≡ Ok false → self.new ≡ self.old }
+        ensures log { IfOk result (λ legal. log.new ≡ with_actions log.old (granted_actions program.now fuel given self.old)) }
         ensures sound { IfOk result (λ legal. IsSoundFlat program.now fuel self.new) }
         ensures work { result ≡ Ok true → work program.now fuel self.new < work program.now fuel self.old }
     {
         let Some(place) = place_of(program, fuel, self.tasks.as_slice(), given) else {
             return Ok(false);
         };
-        self.resume(program, code, fuel, place)?;
-        self.settle(alloc, program, code, fuel)?;
+        note(log, FlatAction::Takes(given))?;
+        self.resume(program, code, fuel, place, log)?;
+        self.settle(alloc, program, code, fuel, log)?;
         Ok(true)
     }
 
@@ -331,6 +347,7 @@ impl<'a> Machine<'a> {
         code: &DecodedCode,
         fuel: u32,
         grants: &[Grant],
+        log: &mut Option<Sequence<FlatAction>>,
     ) -> Result<Option<usize>, Memory>
         requires code { IsDecoded program.now code.now }
         requires fuel { fuel ≤ 32768 }
@@ -338,10 +355,11 @@ impl<'a> Machine<'a> {
         requires sound { IsSoundFlat program.now fuel self.old }
         ensures legal { IfOk result (λ stop. IfNone stop (grants_from program.now fuel (Some self.old) grants.now ≡ Some self.new)) }
         ensures stops { IfOk result (λ stop. IfSome stop (IsStoppedAt program.now fuel self.old grants.now self.new)) }
+        ensures log { IfOk result (λ stop. log.new ≡ with_actions log.old (grants_actions program.now fuel (Some self.old) grants.now)) }
         ensures sound { IfOk result (λ stop. IsSoundFlat program.now fuel self.new) }
     {
         for (place, given) in grants.iter().enumerate() {
-            if !self.grant(alloc, program, code, fuel, *given)? {
+            if !self.grant(alloc, program, code, fuel, *given, log)? {
                 return Ok(Some(place));
             }
         }
@@ -367,7 +385,7 @@ impl<'a> Machine<'a> {
         ensures work { IfOk result (λ done. work program.now fuel self.new < work program.now fuel self.old) }
     {
         // the next grant is always legal, so the result says nothing
-        let _legal = self.grant(alloc, program, code, fuel, next)?;
+        let _legal = self.grant(alloc, program, code, fuel, next, &mut None)?;
         Ok(())
     }
 

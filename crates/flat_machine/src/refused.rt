@@ -47,7 +47,7 @@ fn refused_place<'a>(
     ensures refused { IfOk result (λ stop. IfSome stop (IsFirstRefused program.now fuel grants.now)) }
     ensures sound { IfOk result (λ stop. IsSoundFlat program.now fuel machine.new) }
 {
-    if let Some(place) = machine.grant_all(alloc, program, code, fuel, grants)? {
+    if let Some(place) = machine.grant_all(alloc, program, code, fuel, grants, &mut None)? {
         return Ok(Some(place));
     }
     if machine.next_grant(program, fuel).is_some() {
@@ -84,7 +84,7 @@ fn run_by(
     ensures value { IfOk result (IsRunBy program.now fuel grants.now) }
     ensures within { IfOk result IsShort }
 {
-    let mut machine = Machine::open(alloc, program, code, fuel)?;
+    let mut machine = Machine::open(alloc, program, code, fuel, &mut None)?;
     match refused_place(&mut machine, alloc, program, code, fuel, grants)? {
         Some(place) => Ok(FlatRun::Refused { place }),
         None => whole_run(machine, alloc, program, fuel),

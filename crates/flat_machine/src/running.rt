@@ -1,4 +1,4 @@
-ghost use Rattle.std.specs.Prelude.{◌≡◌, ◌≤◌, ◌<◌, None, Some, length, IfOk, IfSome, true, false};
+ghost use Rattle.std.specs.Prelude.{◌≡◌, ◌≤◌, ◌<◌, [], ◌∷◌, None, Some, length, IfOk, OnOk, IfSome, true, false};
 ghost use Rattle.rv_core.specs.Access.{is_held};
 ghost use Rattle.rv_core.specs.Decoded.{IsDecoded};
 ghost use Rattle.rv_core.specs.Kinds.{Allowed, IsLoad};
@@ -6,7 +6,10 @@ ghost use Rattle.rv_core.specs.Next.{IsNextOf};
 ghost use Rattle.rv_core.specs.Step.{advanced, loaded_of};
 ghost use Rattle.flat_machine.specs.Step.{At, fresh, wish, in_state, in_load, flat_step, segment, room, IsWithin, HasLock, WantsLock, IsUnmoved};
 ghost use Rattle.flat_machine.specs.Phases.{has_finished};
+ghost use Rattle.flat_machine.specs.declared.accesses.FlatAction.TheVariants.{Accesses};
+ghost use Rattle.flat_machine.specs.Accesses.{with_actions, flat_access, actions_at, segment_actions};
 
+use crate::accesses::{AccessKind, FlatAccess, FlatAction, note};
 use dn_base::{LoadSeen, Memory, PhaseId, Sequence, WordId};
 use region_table::{Program, TaskDecl};
 use rv_core::{DecodedCode, End, Need, Next, TaskState};
@@ -86,6 +89,29 @@ impl Running<'_> {
         self.loads.push(LoadSeen { word, value })
     }
 
+    /// Notes an access of a word by the task's next instruction.
+    fn note(
+        &self,
+        log: &mut Option<Sequence<FlatAction>>,
+        kind: AccessKind,
+        word: WordId,
+        value: u32,
+    ) -> Result<(), Memory>
+        ensures { OnOk result (log.new ≡ with_actions log.old (Accesses (flat_access self.now kind word value) ∷ [])) }
+    {
+        let access = FlatAccess {
+            phase: self.phase,
+            core: self.decl.core,
+            pc: self.state.pc,
+            held: self.state.held,
+            number: self.loads.len(),
+            kind,
+            word,
+            value,
+        };
+        note(log, FlatAction::Accesses(access))
+    }
+
     /// Makes one instruction of the task; a task that has ended or wants a lock isn't changed. Returns whether an instruction
     /// was made.
     pub(crate) fn step(
@@ -94,6 +120,7 @@ impl Running<'_> {
         code: &DecodedCode,
         fuel: u32,
         memory: &mut Vec<u32>,
+        log: &mut Option<Sequence<FlatAction>>,
     ) -> Result<bool, Memory>
         requires code { IsDecoded program.now code.now }
         requires fuel { fuel ≤ 32768 }
@@ -103,6 +130,10 @@ impl Running<'_> {
             record { task = self.new; memory = memory.new.items } ≡ flat_step program.now fuel before) }
         ensures still { IfOk result (λ went. went ≡ false → let before : At = record { task = self.old; memory = memory.old.items } in
             IsUnmoved program.now fuel before) }
+        ensures log { IfOk result (λ went. let before : At = record { task = self.old; memory = memory.old.items } in
+            log.new ≡ with_actions log.old (actions_at program.now fuel before)) }
+        ensures quiet { IfOk result (λ went. went ≡ false → let before : At = record { task = self.old; memory = memory.old.items } in
+            actions_at program.now fuel before ≡ []) }
         ensures gone { IfOk result (λ went. went ≡ true → room fuel self.new < room fuel self.old) }
         ensures words { length memory.new.items ≡ length program.now.memory }
         ensures within { IsWithin fuel self.new }
@@ -118,12 +149,15 @@ impl Running<'_> {
             }
             Need::Load { word } => {
                 let value = memory[word.0 as usize];
+                self.note(log, AccessKind::Load, word, value)?;
                 self.load(program, fuel, &next, word, value)?;
             }
             Need::Store { word, .. } => {
                 let place = word.0 as usize;
                 let old = memory[place];
-                memory[place] = self.state.merged_by(program, self.decl, fuel, &next, old);
+                let value = self.state.merged_by(program, self.decl, fuel, &next, old);
+                self.note(log, AccessKind::Store, word, value)?;
+                memory[place] = value;
                 self.state.complete(program, self.decl, fuel, &next);
             }
             Need::Acquire { .. } => return Ok(false),
@@ -145,13 +179,14 @@ impl Running<'_> {
     }
 
     /// Runs the task until it waits or ends.
-    #[tactic(auto, unfolding(crate::specs::Step::segment))]
+    #[tactic(auto, unfolding(crate::specs::Step::segment, crate::specs::Accesses::segment_actions))]
     pub(crate) fn segment(
         &mut self,
         program: &Program,
         code: &DecodedCode,
         fuel: u32,
         memory: &mut Vec<u32>,
+        log: &mut Option<Sequence<FlatAction>>,
     ) -> Result<(), Memory>
         requires code { IsDecoded program.now code.now }
         requires fuel { fuel ≤ 32768 }
@@ -159,12 +194,14 @@ impl Running<'_> {
         requires within { IsWithin fuel self.old }
         ensures value { IfOk result (λ done. let before : At = record { task = self.old; memory = memory.old.items } in
             record { task = self.new; memory = memory.new.items } ≡ segment program.now fuel before) }
+        ensures log { IfOk result (λ done. let before : At = record { task = self.old; memory = memory.old.items } in
+            log.new ≡ with_actions log.old (segment_actions program.now fuel before)) }
         ensures words { length memory.new.items ≡ length program.now.memory }
         ensures within { IsWithin fuel self.new }
         ensures room { room fuel self.new ≤ room fuel self.old }
     {
         for _done in 0..fuel + 1 {
-            if !self.step(program, code, fuel, memory)? {
+            if !self.step(program, code, fuel, memory, log)? {
                 return Ok(());
             }
         }

@@ -56,7 +56,7 @@ fn least_grants_by(
     requires fuel { fuel ≤ 32768 }
     ensures { IfOk result (λ grants. IsLeast program.now fuel grants.items) }
 {
-    let mut machine = Machine::open(alloc, program, code, fuel)?;
+    let mut machine = Machine::open(alloc, program, code, fuel, &mut None)?;
     machine.grant_least(alloc, program, code, fuel)
 }
 
@@ -116,7 +116,7 @@ fn least_run_by(
     ensures end { IfOk result (λ run. flat_end program.now fuel run.grants.items ≡ Some run.end) }
     ensures within { IfOk result (λ run. (length run.end.ending.memory ≤ 65536) × (length run.end.ending.tasks ≤ 64)) }
 {
-    let mut machine = Machine::open(alloc, program, code, fuel)?;
+    let mut machine = Machine::open(alloc, program, code, fuel, &mut None)?;
     let grants = machine.grant_least(alloc, program, code, fuel)?;
     with_end(machine, alloc, program, fuel, grants)
 }

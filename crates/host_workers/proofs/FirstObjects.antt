@@ -77,10 +77,10 @@ module _ (S : State) (mails : List Mail) (inboxes : InboxParts) (bank_objects : 
 
   -- ---- a hall may begin with them
 
-  pub hall-parts : 1 ≤ S.setting.shape.cores → S.setting.shape.cores ≤ 16 → AreHallParts bank_objects ports keeper_object
-  hall-parts some most = record {
+  pub hall-parts : 1 ≤ S.setting.shape.cores → S.setting.shape.cores ≤ 16 → S.setting.shape.banks ≤ 16 → AreHallParts bank_objects ports keeper_object
+  hall-parts some most few = record {
     some_bank = omega (arith, count-banks, machine.context.some_banks);
-    few_banks = omega (arith, count-banks, machine.context.most_banks);
+    few_banks = omega (arith, count-banks, few);
     some_port = omega (arith, count-ports, some);
     few_ports = omega (arith, count-ports, most);
     numbers = λ b object here. (machine.bank b object.state.bank (bank-there b object here)).bank;

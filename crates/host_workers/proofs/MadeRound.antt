@@ -205,7 +205,7 @@ module _ (S M : State) (made workers : ℕ) (f : Finished) (left : IsRoundLeft S
 
     pub room-then : length T.mails < 4294967295
     room-then =
-        let letters = mul-le C.shape.cores (rounds T) 16 65 left.kept.most (most-rounds T kept-then.sound.machine kept-then.sound.within) in
+        let letters = mul-le C.shape.cores (rounds T) 16 65 left.kept.most (most-rounds T kept-then.left.ready kept-then.sound.within) in
         omega (arith, kept-then.sound.mails, letters, few-events, left.far)
 
     pub round-acts : AllHaveActed C S (round merged)

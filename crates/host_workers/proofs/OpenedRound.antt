@@ -43,4 +43,4 @@ module _ (shape : Shape) (S : State) (m : Moving) (is : IsMovingOf shape S m) wh
       → AreFirstInboxes shape m.pool.mails inboxes → AreObjectsOf m.banks.items m.keeper inboxes next objects ports keeper → AreAtFirst objects keeper → AreHallParts objects ports keeper
   parts-there inboxes next objects ports keeper rest first hold clocks =
       hall-parts S S.mails inboxes objects ports keeper is.machine (hold-there inboxes next objects ports keeper rest hold) (first-there inboxes first) clocks
-      (subst (λ (sh : Shape). 1 ≤ sh.cores) (sym is.shape_is) is.some) (subst (λ (sh : Shape). sh.cores ≤ 16) (sym is.shape_is) is.most)
+      (subst (λ (sh : Shape). 1 ≤ sh.cores) (sym is.shape_is) is.some) (subst (λ (sh : Shape). sh.cores ≤ 16) (sym is.shape_is) is.most) (subst (λ (sh : Shape). sh.banks ≤ 16) (sym is.shape_is) is.few_banks)

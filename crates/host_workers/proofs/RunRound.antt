@@ -50,6 +50,7 @@ moving-of S fixed moving stands kept = record {
   shape_is = refl;
   some = kept.some;
   most = kept.most;
+  few_banks = kept.left.ready.context.most_banks;
   nodes = refl;
   banks = refl;
   keeper = refl;
@@ -116,7 +117,7 @@ module _ (M : State) (made workers : ℕ) (hall : HallView) (jobs : List Job) (k
   pub ready-jobs : All (IsReadyJob C hall) jobs
   ready-jobs = all-places (IsReadyJob C hall) jobs (λ k job at. record {
     may = record {
-      context = machine.context;
+      context = kept.left.ready.context;
       pass_is = place-all (IsHallPass hall) (map pass_of jobs) k job.pass opened.all.fit (mapped-at pass_of jobs k job at);
       ports = hall-ports;
       banks = hall-banks;

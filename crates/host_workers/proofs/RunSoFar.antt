@@ -91,7 +91,7 @@ setting-reordered S T same = ap (λ (U : State). U.setting) same.rest
 pub begins : (m : Made) → IsKept m.state m.made → m.made ≡ 0 → IsRunSoFar m.state.setting m (no_log (length m.state.setting.program.phases))
 begins m kept none =
     record {
-      ready = ready-of m.state m.made kept.sound;
+      ready = ready-of m.state m.made kept;
       run = tt;
       leads = subst (λ (S : State). IsReordered S m.state) (kept.first none) (record { mails = IsPermutation-refl m.state.mails; rest = refl });
       made = none;

@@ -40,6 +40,7 @@ pub record IsMovingOf (shape : Shape) (S : State) (m : Moving) : Type 0 where
   pub shape_is : S.setting.shape ≡ shape
   pub some : 1 ≤ shape.cores
   pub most : shape.cores ≤ 16
+  pub few_banks : shape.banks ≤ 16
   pub nodes : S.nodes ≡ m.nodes.items
   pub banks : S.banks ≡ m.banks.items
   pub keeper : S.keeper ≡ m.keeper

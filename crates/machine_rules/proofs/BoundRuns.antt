@@ -24,7 +24,8 @@ use Rattle.machine_rules.specs.Next.{next}
 use Rattle.machine_rules.specs.Memory.{store_in}
 use Rattle.machine_rules.specs.Runs.{after, IsRun, begun_in}
 use Rattle.machine_rules.specs.Bound.{task_in_phase, last_task, retired_from, retired_in, started_in}
-use Rattle.machine_rules.specs.Sound.{IsSound, IsReady}
+use Rattle.machine_rules.specs.Sound.{IsSound, IsReady, IsWellFormed}
+use Rattle.machine_rules.proofs.AnySize.{well-formed}
 use Rattle.machine_rules.proofs.Invariant.{Invariant}
 use Rattle.machine_rules.proofs.Outcomes.{stored_to}
 use Rattle.machine_rules.proofs.SoundEvents.{sound-next}
@@ -211,9 +212,9 @@ begun-done S M count events cores sound inv run within =
 
 -- ---- every run
 
-pub run-few : (C : Setting) (events : List Event) → IsReady C → IsRun (initial_state C) events
+pub well-few : (C : Setting) (events : List Event) → IsWellFormed C → IsRun (initial_state C) events
     → length events ≤ 12 * (retired_in (initial_state C) events + started_in (initial_state C) events) + 3 * (C.shape.cores * length C.program.phases)
-run-few C events ready run = by_phases inv.phases.within where
+well-few C events well run = by_phases inv.phases.within where
   M : ℕ → ℕ
   M = first_memory C
 
@@ -221,10 +222,10 @@ run-few C events ready run = by_phases inv.phases.within where
   T = after (initial_state C) events
 
   sound : IsSound (initial_state C) 0
-  sound = opened-sound C ready.context ready.program ready.checked
+  sound = opened-sound C well
 
   first : Invariant (initial_state C) M
-  first = opened-invariant C ready.context ready.program ready.checked
+  first = opened-invariant C well
 
   inv : Invariant T (memory_over M (initial_state C) events)
   inv = (run-kept (initial_state C) M 0 events sound first run).1
@@ -236,7 +237,7 @@ run-few C events ready run = by_phases inv.phases.within where
       → length events ≤ 12 * (retired_in (initial_state C) events + started_in (initial_state C) events) + 3 * (C.shape.cores * length C.program.phases)
   by_phases (inr none) = omega (arith, ap length (no-phases-run C events (ap (λ (x : Setting). length x.program.phases) (sym setting) ∙ none) run))
   by_phases (inl within) =
-      let along = spent-run (initial_state C) M 0 0 0 events sound first run (opened-spent C ready.context) in
+      let along = spent-run (initial_state C) M 0 0 0 events sound first run (opened-spent C well.context) in
       let bound = spent-bound T (memory_over M (initial_state C) events) (0 + length events) (0 + along.more) inv along.spent in
       let done = run-done (initial_state C) M 0 events C.shape.cores (T.keeper.phase + 1) along.more sound first run (ap (λ (x : Setting). x.shape.cores) (opened-setting C)) (omega arith) along.earns in
       let tasks = begun-done (initial_state C) M 0 events C.shape.cores sound first run (omega (arith, within)) in
@@ -276,6 +277,10 @@ cores-most words locks (p ∷ ps) all =
       cores-most words locks ps (All-tail (IsPhase words locks) p ps all),
     )
 
+pub run-few : (C : Setting) (events : List Event) → IsReady C → IsRun (initial_state C) events
+    → length events ≤ 12 * (retired_in (initial_state C) events + started_in (initial_state C) events) + 3 * (C.shape.cores * length C.program.phases)
+run-few C events ready run = well-few C events (well-formed C ready) run
+
 pub run-ends : (C : Setting) (events : List Event) → IsReady C → IsRun (initial_state C) events → length events ≤ 25169664
 run-ends C events ready run =
     omega (arith, run-few C events ready run, retired, started, cores)
@@ -287,7 +292,7 @@ run-ends C events ready run =
     each k c =
         omega (
           arith,
-          last-fuel (initial_state C) (first_memory C) 0 events k c (opened-sound C ready.context ready.program ready.checked) (opened-invariant C ready.context ready.program ready.checked) run,
+          last-fuel (initial_state C) (first_memory C) 0 events k c (opened-sound C (well-formed C ready)) (opened-invariant C (well-formed C ready)) run,
           ap (λ (x : Setting). x.fuel) (opened-setting C),
           ready.context.most_fuel,
         )

@@ -12,7 +12,8 @@ use Rattle.region_table.specs.Words.{has}
 use Rattle.region_table.specs.Plan.{task_writes, uses_plainly}
 use Rattle.region_table.specs.Tasks.{declared, IsDeclaration}
 use Rattle.region_table.proofs.TaskLemmas.{declared-tells}
-use Rattle.region_table.proofs.WrittenLemmas.{plan-at, declared-written, guarded-writes}
+use Rattle.region_table.proofs.WrittenLemmas.{plan-at, guarded-writes}
+use Rattle.machine_rules.proofs.Planned.{planned-word}
 use Rattle.effect_checker.proofs.SeparationLemmas.{phase-checked, plain_words_apart, guarded_words_apart}
 use Rattle.rv_core.specs.Access.{is_held}
 use Rattle.rv_core.specs.Task.{started}
@@ -68,7 +69,7 @@ in-plan : (S : State) (M : ℕ → ℕ) (core w : ℕ) (x : TaskDecl) → Invari
 in-plan S M core w x inv declares writes =
     let told = declared-tells S.setting.program S.keeper.phase core x declares in
     let found = plan-at S.setting.program S.setting.plans S.keeper.phase told.phase inv.machine.context.plans told.there in
-    rw (found.there) (declared-written S.setting.program S.setting.plans S.keeper.phase core x found.plan w inv.machine.program inv.machine.context.plans declares found.there writes)
+    rw (found.there) (planned-word S.setting.program told.phase found.plan x w inv.machine.program told.known told.among found.is writes)
 
 -- ---- the last arrival: whatever may be old is behind then
 

@@ -13,7 +13,8 @@ use Rattle.machine_rules.specs.State.{State, initial_state}
 use Rattle.machine_rules.specs.Next.{next}
 use Rattle.machine_rules.specs.Memory.{store_in}
 use Rattle.machine_rules.specs.Runs.{after, IsRun}
-use Rattle.machine_rules.specs.Sound.{IsSound, IsReady}
+use Rattle.machine_rules.specs.Sound.{IsSound, IsReady, IsWellFormed}
+use Rattle.machine_rules.proofs.AnySize.{well-formed}
 use Rattle.machine_rules.specs.Accesses.{Access, access_in, accesses_of}
 use Rattle.machine_rules.specs.Consistent.{written_to, last_stored, word_after, PrecedesInProgram, KeepsProgramOrder, ReadsLastStores, IsSequentialOrder}
 use Rattle.machine_rules.proofs.Invariant.{Invariant}
@@ -123,22 +124,27 @@ last-stores S M count (e ∷ es) w sound inv run =
 
 -- ---- every run
 
-reads-last : (C : Setting) (events : List Event) → IsReady C → IsRun (initial_state C) events → ReadsLastStores C.program.memory (accesses_of (initial_state C) events)
-reads-last C events ready run before rest a value is reads =
+reads-last : (C : Setting) (events : List Event) → IsWellFormed C → IsRun (initial_state C) events → ReadsLastStores C.program.memory (accesses_of (initial_state C) events)
+reads-last C events well run before rest a value is reads =
     let S : State = initial_state C in
     let s = split access_in S events before a rest is in
     let parts = run-front S s.past s.later s.event (subst (IsRun S) s.is run) in
-    let sound = opened-sound C ready.context ready.program ready.checked in
-    let inv = opened-invariant C ready.context ready.program ready.checked in
+    let sound = opened-sound C well in
+    let inv = opened-invariant C well in
     let here = run-kept S (first_memory C) 0 s.past sound inv parts.0 in
     let made = (access-told (after S s.past) (memory_over (first_memory C) S s.past) s.event here.1 parts.1).made a s.told in
     made.reads value reads ∙ (last-stores S (first_memory C) 0 s.past a.word sound inv parts.0 ∙ ap (λ (xs : List Access). word_after C.program.memory xs a.word) s.front)
 
-pub run-sequential : (C : Setting) (events : List Event) → IsReady C → IsRun (initial_state C) events
+pub well-sequential : (C : Setting) (events : List Event) → IsWellFormed C → IsRun (initial_state C) events
     → IsSequentialOrder C.program.memory (accesses_of (initial_state C) events) (accesses_of (initial_state C) events)
-run-sequential C events ready run =
+well-sequential C events well run =
     record {
       all = IsPermutation-refl (accesses_of (initial_state C) events);
-      program = (ordered (initial_state C) (first_memory C) 0 events (opened-sound C ready.context ready.program ready.checked) (opened-invariant C ready.context ready.program ready.checked) run).pairs;
-      reads = reads-last C events ready run;
+      program = (ordered (initial_state C) (first_memory C) 0 events (opened-sound C well) (opened-invariant C well) run).pairs;
+      reads = reads-last C events well run;
     }
+
+-- the same within the limits of the code
+pub run-sequential : (C : Setting) (events : List Event) → IsReady C → IsRun (initial_state C) events
+    → IsSequentialOrder C.program.memory (accesses_of (initial_state C) events) (accesses_of (initial_state C) events)
+run-sequential C events ready run = well-sequential C events (well-formed C ready) run

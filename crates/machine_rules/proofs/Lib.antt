@@ -40,6 +40,7 @@ mod LockRows
 mod LockHomes
 mod LockSigns
 mod LockOutcomes
+mod Planned
 mod CopyFrames
 mod CopyNodes
 mod CopyGrants
@@ -54,6 +55,7 @@ pub mod Dispatch
 pub mod MachineMails
 pub mod MachineKept
 pub mod SoundEvents
+pub mod AnySize
 pub mod OpenedFacts
 pub mod OpenedSound
 pub mod OpenedInvariant
@@ -88,3 +90,6 @@ pub mod InProgramOrder
 pub mod RaceFree
 pub mod Reordered
 pub mod ReorderedCoherent
+pub mod Buffers
+mod Senders
+pub mod Channels

@@ -9,7 +9,7 @@ use Rattle.registry_bank.specs.Bank.{initial_bank, first_word, IsNewBank}
 use Rattle.registry_bank.proofs.Opened.{opened-is-new}
 use Rattle.phase_barrier.specs.Barrier.{initial_barrier}
 use Rattle.registration_protocol.specs.Node.{NodeParts, Setting, initial_node}
-use Rattle.registration_protocol.specs.Fit.{IsContext}
+use Rattle.machine_rules.specs.Sound.{IsShaped}
 use Rattle.machine_rules.specs.State.{initial_state, entry_in, entry_at, word_in, home_at, lock_in, lock_at}
 use Rattle.machine_rules.specs.Flight.{Test, flight}
 
@@ -65,12 +65,12 @@ unfolding initial_state
 opened-banks C bank = get-made (λ (bank : ℕ). initial_bank bank C.shape.banks C.shape.cores C.program.memory (length C.program.locks)) C.shape.banks bank
 
 -- the bank of a number is there
-bank-of : (C : Setting) (n : ℕ) → IsContext C → slice_get (initial_state C).banks (n % C.shape.banks) ≡ Some (initial_bank (n % C.shape.banks) C.shape.banks C.shape.cores C.program.memory (length C.program.locks))
+bank-of : (C : Setting) (n : ℕ) → IsShaped C → slice_get (initial_state C).banks (n % C.shape.banks) ≡ Some (initial_bank (n % C.shape.banks) C.shape.banks C.shape.cores C.program.memory (length C.program.locks))
 bank-of C n context =
     let within : nat_lt (n % C.shape.banks) C.shape.banks ≡ true = grind (arith, nat_tests, context.some_banks) in
     opened-banks C (n % C.shape.banks) ∙ rw (within) refl
 
-new-bank : (C : Setting) (n : ℕ) → IsContext C → IsNewBank (n % C.shape.banks) C.shape.banks C.shape.cores C.program.memory (length C.program.locks) (initial_bank (n % C.shape.banks) C.shape.banks C.shape.cores C.program.memory (length C.program.locks))
+new-bank : (C : Setting) (n : ℕ) → IsShaped C → IsNewBank (n % C.shape.banks) C.shape.banks C.shape.cores C.program.memory (length C.program.locks) (initial_bank (n % C.shape.banks) C.shape.banks C.shape.cores C.program.memory (length C.program.locks))
 new-bank C n context = opened-is-new (n % C.shape.banks) C.shape.banks C.shape.cores C.program.memory (length C.program.locks) (omega (arith, context.some_banks))
 
 home-found : (C : Setting) (w : ℕ) → home_at (initial_state C) w ≡ word_in w (slice_get (initial_state C).banks (w % C.shape.banks))
@@ -84,10 +84,10 @@ lock-found C l = refl
 same-number : (n : ℕ) → (n == n) ≡ true
 same-number n = grind (arith, nat_tests)
 
-pub opened-home : (C : Setting) (w : ℕ) → IsContext C → home_at (initial_state C) w ≡ first_word (slice_get C.program.memory w)
+pub opened-home : (C : Setting) (w : ℕ) → IsShaped C → home_at (initial_state C) w ≡ first_word (slice_get C.program.memory w)
 opened-home C w context =
     home-found C w ∙ ap (word_in w) (bank-of C w context) ∙ (new-bank C w context).each_word w ∙ rw (same-number (w % C.shape.banks)) refl
 
-pub opened-lock : (C : Setting) (l : ℕ) → IsContext C → lock_at (initial_state C) l ≡ cond (nat_lt l (length C.program.locks)) (Some (free_lock C.shape.cores)) None
+pub opened-lock : (C : Setting) (l : ℕ) → IsShaped C → lock_at (initial_state C) l ≡ cond (nat_lt l (length C.program.locks)) (Some (free_lock C.shape.cores)) None
 opened-lock C l context =
     lock-found C l ∙ ap (lock_in l) (bank-of C l context) ∙ (new-bank C l context).each_lock l ∙ rw (same-number (l % C.shape.banks)) refl

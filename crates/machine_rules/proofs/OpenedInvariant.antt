@@ -6,8 +6,6 @@ use Rattle.std.specs.Option.{option_and_then}
 use Rattle.std.specs.List.{find}
 use Rattle.std.proofs.lemmas.Bool.Decides.{nat_tests}
 use Rattle.dn_base.specs.declared.ids.CoreId.{CoreId}
-use Rattle.effect_checker.specs.Checked.{IsChecked}
-use Rattle.region_table.specs.Program.{IsProgram}
 use Rattle.region_table.specs.declared.declared.TaskDecl.{TaskDecl}
 use Rattle.region_table.specs.declared.declared.Phase.{Phase}
 use Rattle.region_table.specs.Tasks.{is_for, declared}
@@ -22,7 +20,7 @@ use Rattle.phase_barrier.specs.Barrier.{Barrier, all_arrived, initial_barrier}
 use Rattle.phase_barrier.proofs.ArrivalLemmas.{unmarked}
 use Rattle.phase_barrier.proofs.CountLemmas.{missing-one}
 use Rattle.registration_protocol.specs.Node.{NodeParts, Setting, is_running, initial_node}
-use Rattle.registration_protocol.specs.Fit.{IsContext}
+use Rattle.machine_rules.specs.Sound.{IsShaped, IsWellFormed}
 use Rattle.registration_protocol.specs.Parts.{held_locks}
 use Rattle.machine_rules.specs.State.{initial_state, lock_at}
 use Rattle.machine_rules.specs.Flight.{bit, is_reg_req_of, is_reg_fwd_of, is_reg_fwd_to, is_reg_fwd_to_itself, is_reg_ack_to, is_write_back_of, is_wb_ack_to, is_read_req_of, is_read_fwd_of, is_read_fwd_to, is_data_reply_to, is_false_data_reply, is_acquire_of, is_release_of, is_grant_to, is_arrival_of, is_go_to, is_halt_to}
@@ -38,7 +36,7 @@ no-owner : (c : ℕ) (o : Option ℕ) → owner_bit c (first_word o) ≡ 0
 no-owner c None = refl
 no-owner c (Some value) = refl
 
-words-row : (C : Setting) (w c : ℕ) → IsContext C → WordRow (word_counts (initial_state C) w c)
+words-row : (C : Setting) (w c : ℕ) → IsShaped C → WordRow (word_counts (initial_state C) w c)
 words-row C w c context =
     let entry = opened-entry C c w in
     omega (
@@ -57,7 +55,7 @@ words-row C w c context =
       opened-flight C (is_wb_ack_to w c),
     )
 
-words-open : (C : Setting) → IsContext C → WordsGood (initial_state C)
+words-open : (C : Setting) → IsShaped C → WordsGood (initial_state C)
 words-open C context =
     record {
       row = λ w c. words-row C w c context;
@@ -69,13 +67,13 @@ words-open C context =
 -- ---- locks
 
 -- no lock is held or waited for at its home
-lock-free : (C : Setting) (l : ℕ) (h : Lock) → IsContext C → lock_at (initial_state C) l ≡ Some h → h ≡ free_lock C.shape.cores
+lock-free : (C : Setting) (l : ℕ) (h : Lock) → IsShaped C → lock_at (initial_state C) l ≡ Some h → h ≡ free_lock C.shape.cores
 lock-free C l h context found = by_test (nat_lt l (length C.program.locks)) (sym (opened-lock C l context) ∙ found) where
   by_test : (t : Bool) → cond t (Some (free_lock C.shape.cores)) None ≡ Some h → h ≡ free_lock C.shape.cores
   by_test true is = cc
   by_test false is = absurd (cc)
 
-lock-unused : (C : Setting) (l c : ℕ) → IsContext C → holder_in c (lock_at (initial_state C) l) + queued_in c (lock_at (initial_state C) l) ≡ 0
+lock-unused : (C : Setting) (l c : ℕ) → IsShaped C → holder_in c (lock_at (initial_state C) l) + queued_in c (lock_at (initial_state C) l) ≡ 0
 lock-unused C l c context = by_lock (lock_at (initial_state C) l) refl where
   by_lock : (o : Option Lock) → lock_at (initial_state C) l ≡ o → holder_in c o + queued_in c o ≡ 0
   by_lock None is = refl
@@ -92,11 +90,11 @@ node-unlocked C l c = by_node (slice_get (initial_state C).nodes c) refl where
   by_node None is = refl
   by_node (Some n) is = rw ((opened-node C c n is).is, none-held (declared C.program 0 c)) refl
 
-locks-row : (C : Setting) (l c : ℕ) → IsContext C → LockRow (lock_counts (initial_state C) l c)
+locks-row : (C : Setting) (l c : ℕ) → IsShaped C → LockRow (lock_counts (initial_state C) l c)
 locks-row C l c context =
     omega (arith, lock-unused C l c context, node-unlocked C l c, opened-flight C (is_acquire_of l c), opened-flight C (is_release_of l c), opened-flight C (is_grant_to l c))
 
-locks-open : (C : Setting) → IsContext C → LocksGood (initial_state C)
+locks-open : (C : Setting) → IsShaped C → LocksGood (initial_state C)
 locks-open C context =
     record {
       row = λ l c. locks-row C l c context;
@@ -218,7 +216,7 @@ first-home : (o : Option ℕ) (core : CoreId) → first_word o ≡ Some (Reg cor
 first-home None core is = cc
 first-home (Some value) core is = cc
 
-values-open : (C : Setting) → IsContext C → ValuesGood (initial_state C) (λ w. slice_index C.program.memory w)
+values-open : (C : Setting) → IsShaped C → ValuesGood (initial_state C) (λ w. slice_index C.program.memory w)
 values-open C context =
     record {
       beyond = λ w is. first-beyond C.program.memory w (sym (opened-home C w context) ∙ is);
@@ -244,16 +242,16 @@ behind-open C c n found =
 
 -- ---- all of it
 
-pub opened-invariant : (C : Setting) → IsContext C → IsProgram C.program → IsChecked C.program → Invariant (initial_state C) (λ w. slice_index C.program.memory w)
-opened-invariant C context program checked =
+pub opened-invariant : (C : Setting) → IsWellFormed C → Invariant (initial_state C) (λ w. slice_index C.program.memory w)
+opened-invariant C well =
     record {
-      machine = opened-machine C context program checked;
+      machine = opened-machine C well.context well.program well.checked;
       addressed = opened-flight C (is_lost (initial_state C).setting.shape.cores (initial_state C).setting.shape.banks);
-      words = words-open C context;
-      locks = locks-open C context;
+      words = words-open C well.context;
+      locks = locks-open C well.context;
       phases = phases-open C;
       reads = reads-open C;
-      values = values-open C context;
+      values = values-open C well.context;
       copies = copies-open C;
       behind = behind-open C;
       ended = λ c n found halted. inr (

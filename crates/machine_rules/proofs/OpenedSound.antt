@@ -5,31 +5,30 @@ use Rattle.std.proofs.lemmas.Bool.Decides.{nat_tests}
 use Rattle.std.proofs.lemmas.List.{length-replicate}
 use Rattle.std.proofs.lemmas.List.FromFn.{length-map-range_with_len}
 use Rattle.effect_checker.specs.Checked.{IsChecked}
-use Rattle.region_table.specs.Program.{IsProgram}
 use Rattle.queue_lock.specs.Lock.{free_lock}
 use Rattle.registry_bank.specs.Bank.{BankParts, initial_bank, first_word}
 use Rattle.registry_bank.proofs.Opened.{IsBank-opened}
 use Rattle.registration_protocol.specs.Node.{NodeParts, Setting, initial_node}
-use Rattle.registration_protocol.specs.Fit.{IsContext, Fits}
+use Rattle.registration_protocol.specs.Fit.{Fits}
 use Rattle.registration_protocol.proofs.FitLemmas.{opened-fits}
 use Rattle.machine_rules.specs.State.{initial_state, home_at, lock_at}
-use Rattle.machine_rules.specs.Sound.{IsMachine, IsSound, IsNodeAt, IsBankAt}
+use Rattle.machine_rules.specs.Sound.{IsShaped, IsOfTasks, IsWellFormed, IsMachine, IsSound, IsNodeAt, IsBankAt}
 use Rattle.machine_rules.proofs.OpenedFacts.{opened-setting, opened-node, opened-banks, opened-home, opened-lock}
 
-home-there : (C : Setting) (w : ℕ) → IsContext C → is_some (home_at (initial_state C) w) ≡ nat_lt w (length C.program.memory)
+home-there : (C : Setting) (w : ℕ) → IsShaped C → is_some (home_at (initial_state C) w) ≡ nat_lt w (length C.program.memory)
 home-there C w context = ap is_some (opened-home C w context) ∙ by_list C.program.memory w where
   by_list : (xs : List ℕ) (i : ℕ) → is_some (first_word (slice_get xs i)) ≡ nat_lt i (length xs)
   by_list [] i = grind (arith, nat_tests)
   by_list (x ∷ xs) zero = grind (arith, nat_tests)
   by_list (x ∷ xs) (suc i) = by_list xs i ∙ grind (arith, nat_tests)
 
-lock-there : (C : Setting) (l : ℕ) → IsContext C → is_some (lock_at (initial_state C) l) ≡ nat_lt l (length C.program.locks)
+lock-there : (C : Setting) (l : ℕ) → IsShaped C → is_some (lock_at (initial_state C) l) ≡ nat_lt l (length C.program.locks)
 lock-there C l context = ap is_some (opened-lock C l context) ∙ by_test (nat_lt l (length C.program.locks)) where
   by_test : (t : Bool) → is_some (cond t (Some (free_lock C.shape.cores)) None) ≡ t
   by_test true = refl
   by_test false = refl
 
-node-at : (C : Setting) (core : ℕ) (n : NodeParts) → IsContext C → slice_get (initial_state C).nodes core ≡ Some n → IsNodeAt (initial_state C) core n
+node-at : (C : Setting) (core : ℕ) (n : NodeParts) → IsShaped C → slice_get (initial_state C).nodes core ≡ Some n → IsNodeAt (initial_state C) core n
 node-at C core n context found =
     let new = opened-node C core n found in
     subst (IsNodeAt (initial_state C) core) (sym new.is)
@@ -52,7 +51,7 @@ bank-at C bank b found = by_test (nat_lt bank C.shape.banks) refl (sym (opened-b
       subst (IsBankAt (initial_state C) bank) same stands
   by_test false e is = absurd (cc)
 
-pub opened-machine : (C : Setting) → IsContext C → IsProgram C.program → IsChecked C.program → IsMachine (initial_state C)
+pub opened-machine : (C : Setting) → IsShaped C → IsOfTasks C.program → IsChecked C.program → IsMachine (initial_state C)
 unfolding initial_state
 opened-machine C context program checked =
     record {
@@ -90,10 +89,10 @@ phase-first : (C : Setting) → (initial_state C).keeper.phase ≡ 0
 unfolding initial_state
 phase-first C = refl
 
-pub opened-sound : (C : Setting) → IsContext C → IsProgram C.program → IsChecked C.program → IsSound (initial_state C) 0
-opened-sound C context program checked =
+pub opened-sound : (C : Setting) → IsWellFormed C → IsSound (initial_state C) 0
+opened-sound C well =
     record {
-      machine = opened-machine C context program checked;
+      machine = opened-machine C well.context well.program well.checked;
       mails = omega (arith, mails-none C);
       sent = λ place. omega (arith, numbers-none C place);
       within = omega (arith, phase-first C);

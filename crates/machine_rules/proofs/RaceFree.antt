@@ -22,7 +22,8 @@ use Rattle.machine_rules.specs.Memory.{store_in}
 use Rattle.machine_rules.specs.Runs.{after, IsRun}
 use Rattle.machine_rules.specs.Flight.{bit}
 use Rattle.machine_rules.specs.Coherent.{holds_lock, has_lock, holder_in}
-use Rattle.machine_rules.specs.Sound.{IsSound, IsReady}
+use Rattle.machine_rules.specs.Sound.{IsSound, IsReady, IsWellFormed}
+use Rattle.machine_rules.proofs.AnySize.{well-formed}
 use Rattle.machine_rules.specs.Accesses.{Access, access_in, Action, accesses, takes, action_by, action_in, actions_of}
 use Rattle.machine_rules.specs.Racing.{Conflicts, IsHandedOn, IsSynchronized, IsRaceFree}
 use Rattle.machine_rules.proofs.Invariant.{Invariant}
@@ -256,6 +257,10 @@ race-free S M count events sound inv run before between rest a b is conflict =
         (access-told (after T t.past) (memory_over N T t.past) t.event (run-kept T N (count + length s.past + 1) t.past sound_on good second.0).1 second.1).made b
         (action-access (access_in (after T t.past) t.event) (granted_in (after T t.past) t.event) b t.told)
 
+pub well-race_free : (C : Setting) (events : List Event) → IsWellFormed C → IsRun (initial_state C) events → IsRaceFree (actions_of (initial_state C) events)
+well-race_free C events well run =
+    race-free (initial_state C) (first_memory C) 0 events (opened-sound C well) (opened-invariant C well) run
+
+-- the same within the limits of the code
 pub run-race_free : (C : Setting) (events : List Event) → IsReady C → IsRun (initial_state C) events → IsRaceFree (actions_of (initial_state C) events)
-run-race_free C events ready run =
-    race-free (initial_state C) (first_memory C) 0 events (opened-sound C ready.context ready.program ready.checked) (opened-invariant C ready.context ready.program ready.checked) run
+run-race_free C events ready run = well-race_free C events (well-formed C ready) run

@@ -39,7 +39,7 @@ use Rattle.message_net.proofs.PoolLemmas.{place-counted, same_id-refl}
 abbrev pub IsQuiet : State → Type 0
 IsQuiet S = (p : Test) → flight S p ≡ 0
 
-mail-enabled : (S : State) (m : Mail) → slice_get S.mails 0 ≡ Some m → enabled S (Handle m.id) ≡ true
+pub mail-enabled : (S : State) (m : Mail) → slice_get S.mails 0 ≡ Some m → enabled S (Handle m.id) ≡ true
 unfolding enabled
 mail-enabled S m there =
     let one : 1 ≤ count_of m.id S.mails = place-counted (of_id m.id) S.mails 0 m there (same_id-refl m.id) in

@@ -76,7 +76,7 @@ not-own S M c n lock h waits = by_task n.task refl where
       let free = acquire-allowed S.setting.program next_is.decl S.setting.fuel t lock next_is.asks in
       rw (h.found, is) free.1
 
-locked-by : (S : State) (M : ℕ → ℕ) (c : ℕ) (n : NodeParts) (lock : LockId) → IsIdle S M c n → n.waiting ≡ wait.TheVariants.Locking lock → IsLockedOut S c
+pub locked-by : (S : State) (M : ℕ → ℕ) (c : ℕ) (n : NodeParts) (lock : LockId) → IsIdle S M c n → n.waiting ≡ wait.TheVariants.Locking lock → IsLockedOut S c
 locked-by S M c n lock h waits = by_lock (lock_at S lock.0) refl where
   waiting : bit (node_is_locking lock.0 (slice_get S.nodes c)) ≡ 1
   waiting = rw (h.found, waits, same-number lock.0) refl

@@ -11,13 +11,13 @@ use Rattle.phase_barrier.specs.Barrier.{all_arrived}
 use Rattle.registration_protocol.specs.declared.node.NodeWait as wait
 use Rattle.registration_protocol.specs.declared.node.NodeWait.{NodeWait}
 use Rattle.registration_protocol.specs.Node.{NodeParts, Setting, need_if, need_now}
-use Rattle.registration_protocol.specs.Fit.{IsContext, NeedsLock}
+use Rattle.registration_protocol.specs.Fit.{NeedsLock}
 use Rattle.machine_rules.specs.State.{State, initial_state, lock_at}
 use Rattle.machine_rules.specs.Flight.{bit}
 use Rattle.machine_rules.specs.Next.{next, enabled}
 use Rattle.machine_rules.specs.Runs.{after, IsRun}
 use Rattle.machine_rules.specs.Memory.{store_in}
-use Rattle.machine_rules.specs.Sound.{IsSound, rounds}
+use Rattle.machine_rules.specs.Sound.{IsShaped, IsSound, rounds}
 use Rattle.machine_rules.specs.Coherent.{NeedsValue}
 use Rattle.machine_rules.proofs.Invariant.{Invariant}
 use Rattle.machine_rules.proofs.Dispatch.{ways}
@@ -39,13 +39,13 @@ sum-none f (n ∷ ns) none = omega (arith, none 0 n refl, sum-none f ns (λ c m 
 no-debt : (C : Setting) (c : ℕ) (n : NodeParts) → slice_get (initial_state C).nodes c ≡ Some n → debt n ≡ 0
 no-debt C c n found = rw ((opened-node C c n found).is) refl
 
-no-queue : (C : Setting) (l : ℕ) → IsContext C → queue_in (lock_at (initial_state C) l) ≡ 0
+no-queue : (C : Setting) (l : ℕ) → IsShaped C → queue_in (lock_at (initial_state C) l) ≡ 0
 no-queue C l context = ap queue_in (opened-lock C l context) ∙ by_test (nat_lt l (length C.program.locks)) where
   by_test : (t : Bool) → queue_in (cond t (Some (free_lock C.shape.cores)) None) ≡ 0
   by_test true = refl
   by_test false = refl
 
-pub opened-spent : (C : Setting) → IsContext C → Spent (initial_state C) 0 0
+pub opened-spent : (C : Setting) → IsShaped C → Spent (initial_state C) 0 0
 opened-spent C context =
     record {
       paid = omega (

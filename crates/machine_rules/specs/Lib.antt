@@ -11,3 +11,4 @@ pub mod Reordered
 pub mod Accesses
 pub mod Consistent
 pub mod Racing
+pub mod Buffers

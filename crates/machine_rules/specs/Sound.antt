@@ -1,8 +1,13 @@
 -- What holds of a state by itself, whatever the messages in flight are.
 use Rattle.std.specs.Prelude.{◌≡◌, ℕ, ◌+◌, ◌*◌, ◌<◌, ◌≤◌, nat_lt, length, slice_get, slice_index, Some}
 use Rattle.std.specs.Option.{is_some}
-use Rattle.region_table.specs.Program.{IsProgram}
+use Rattle.std.specs.List.{IsAmong}
+use Rattle.region_table.specs.declared.declared.TaskDecl.{TaskDecl}
+use Rattle.region_table.specs.declared.declared.Phase.{Phase}
+use Rattle.region_table.specs.Plan.{ArePlans}
+use Rattle.region_table.specs.Program.{ProgramParts, AreTiled, AreEffects, cores_of, IsProgram}
 use Rattle.effect_checker.specs.Checked.{IsChecked}
+use Rattle.flat_machine.specs.Laws.{AreCoresRising}
 use Rattle.message_net.specs.declared.message.Mail.{Mail}
 use Rattle.message_net.specs.Pool.{AreDistinct}
 use Rattle.registry_bank.specs.Bank.{BankParts, IsBank}
@@ -13,7 +18,29 @@ use Rattle.machine_rules.specs.State.{State, home_at, lock_at}
 use Rattle.machine_rules.specs.Next.{actor_index_in}
 use Rattle.machine_rules.specs.Flight.{bit}
 
--- a setting of a machine: a checked program, with its plans, and a shape and fuel that fit it
+-- a program of any size: its regions cover its memory; in each phase the tasks stand in rising order of their cores; and the
+-- effects of each task are of words of the memory and of locks of the program
+pub record IsOfTasks (P : ProgramParts) : Type 0 where
+  pub tiled : AreTiled 0 P.regions (length P.memory)
+  pub order : AreCoresRising P
+  pub effects : (p : Phase) (d : TaskDecl) → IsAmong P.phases p → IsAmong p.tasks d → AreEffects (length P.memory) (length P.locks) d.effects
+
+-- a machine of any size: the plans are those of the program's phases, there are at least as many cores as the program needs, and
+-- at least one bank, one set and one way
+pub record IsShaped (C : Setting) : Type 0 where
+  pub plans : ArePlans C.program C.plans
+  pub cores : cores_of C.program ≤ C.shape.cores
+  pub some_banks : 0 < C.shape.banks
+  pub some_sets : 0 < C.shape.sets
+  pub some_ways : 0 < C.shape.ways
+
+-- a setting of any size and any fuel: a checked program, with its plans, and a shape that fits it
+pub record IsWellFormed (C : Setting) : Type 0 where
+  pub context : IsShaped C
+  pub program : IsOfTasks C.program
+  pub checked : IsChecked C.program
+
+-- a setting within the limits of the code: a checked program, with its plans, and a shape and fuel that fit it
 pub record IsReady (C : Setting) : Type 0 where
   pub context : IsContext C
   pub program : IsProgram C.program
@@ -33,8 +60,8 @@ pub record IsBankAt (S : State) (place : ℕ) (b : BankParts) : Type 0 where
 -- a state of the machine of its setting: the program is checked, there are as many nodes, banks and numbers as the machine has
 -- actors, each is well formed and at its index, and no two mails have the same id
 pub record IsMachine (S : State) : Type 0 where
-  pub context : IsContext S.setting
-  pub program : IsProgram S.setting.program
+  pub context : IsShaped S.setting
+  pub program : IsOfTasks S.setting.program
   pub checked : IsChecked S.setting.program
   pub nodes : length S.nodes ≡ S.setting.shape.cores
   pub banks : length S.banks ≡ S.setting.shape.banks

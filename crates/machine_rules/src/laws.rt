@@ -2,6 +2,7 @@
 //! A law is a function without effect; its contract states the theorem.
 ghost use Rattle.std.specs.Prelude.{◌≡◌, ℕ, ◌+◌, ◌*◌, ◌≤◌, true, List, length, Some, slice_index};
 ghost use Rattle.dn_base.specs.declared.ids.LoadSeen.{LoadSeen};
+ghost use Rattle.message_net.specs.declared.actor.Actor.{Actor};
 ghost use Rattle.message_net.specs.declared.event.Event.{Event};
 ghost use Rattle.registration_protocol.specs.Node.{Setting};
 ghost use Rattle.machine_rules.specs.State.{State, initial_state};
@@ -11,10 +12,11 @@ ghost use Rattle.machine_rules.specs.Runs.{after, IsRun, IsCompleteRun, memory_a
 ghost use Rattle.machine_rules.specs.Bound.{retired_in, started_in};
 ghost use Rattle.machine_rules.specs.Coherent.{Coherent};
 ghost use Rattle.machine_rules.specs.Rest.{IsAtRest};
-ghost use Rattle.machine_rules.specs.Sound.{IsReady, IsSound};
+ghost use Rattle.machine_rules.specs.Sound.{IsReady, IsWellFormed, IsSound};
 ghost use Rattle.machine_rules.specs.Accesses.{accesses_of, actions_of};
 ghost use Rattle.machine_rules.specs.Consistent.{IsSequentialOrder};
 ghost use Rattle.machine_rules.specs.Racing.{IsRaceFree};
+ghost use Rattle.machine_rules.specs.Buffers.{mails_most, between, between_most};
 ghost use Rattle.machine_rules.specs.Reordered.{IsReordered, GoOnAlike};
 
 /// A sound state stays sound by every event that may come, whatever the messages in flight are.
@@ -24,23 +26,28 @@ pub fn a_state_stays_sound()
 
 /// The machine of a checked program is sound when a run begins.
 pub fn the_opened_machine_is_sound()
-    ensures { (C : Setting) → IsReady C → IsSound (initial_state C) 0 }
+    ensures { (C : Setting) → IsWellFormed C → IsSound (initial_state C) 0 }
+{}
+
+/// A setting within the limits of the code is one of the settings of any size of which the laws speak.
+pub fn a_ready_setting_is_well_formed()
+    ensures { (C : Setting) → IsReady C → IsWellFormed C }
 {}
 
 /// Every run of the machine of a checked program leads to a coherent state.
 pub fn every_run_leads_to_a_coherent_state()
-    ensures { (C : Setting) (events : List Event) → IsReady C → IsRun (initial_state C) events → Coherent (after (initial_state C) events) }
+    ensures { (C : Setting) (events : List Event) → IsWellFormed C → IsRun (initial_state C) events → Coherent (after (initial_state C) events) }
 {}
 
 /// The words that a state shows are the memory to which the stores of its run were applied as they retired.
 pub fn a_state_shows_the_stores_of_its_run()
-    ensures { (C : Setting) (events : List Event) → IsReady C → IsRun (initial_state C) events
+    ensures { (C : Setting) (events : List Event) → IsWellFormed C → IsRun (initial_state C) events
         → memory_of (after (initial_state C) events) ≡ memory_after C.program.memory (initial_state C) events }
 {}
 
 /// A load that retires in a run reads the memory to which the stores before it were applied.
 pub fn each_load_reads_the_stores_before_it()
-    ensures { (C : Setting) (events : List Event) (e : Event) (seen : LoadSeen) → IsReady C → IsRun (initial_state C) events
+    ensures { (C : Setting) (events : List Event) (e : Event) (seen : LoadSeen) → IsWellFormed C → IsRun (initial_state C) events
         → enabled (after (initial_state C) events) e ≡ true → seen_in (after (initial_state C) events) e ≡ Some seen
         → seen.value ≡ slice_index (memory_after C.program.memory (initial_state C) events) seen.word.0 }
 {}
@@ -48,31 +55,41 @@ pub fn each_load_reads_the_stores_before_it()
 /// Every run is sequentially consistent. The order in which its accesses retire is one in which those of each core stand in the
 /// order of its program, and each reads what the last store to its word before it has written, or the program's memory.
 pub fn every_run_is_sequentially_consistent()
-    ensures { (C : Setting) (events : List Event) → IsReady C → IsRun (initial_state C) events
+    ensures { (C : Setting) (events : List Event) → IsWellFormed C → IsRun (initial_state C) events
         → IsSequentialOrder C.program.memory (accesses_of (initial_state C) events) (accesses_of (initial_state C) events) }
 {}
 
 /// No run has a data race: if accesses of two cores conflict, a barrier or a lock that is handed on is between them.
 pub fn no_run_has_a_data_race()
-    ensures { (C : Setting) (events : List Event) → IsReady C → IsRun (initial_state C) events → IsRaceFree (actions_of (initial_state C) events) }
+    ensures { (C : Setting) (events : List Event) → IsWellFormed C → IsRun (initial_state C) events → IsRaceFree (actions_of (initial_state C) events) }
 {}
 
 /// If no event may come any more, all nodes are halted; or some task of the phase hasn't ended, and each such task waits for a
 /// lock that the task of another core holds.
 pub fn a_complete_run_is_at_rest()
-    ensures { (C : Setting) (events : List Event) → IsReady C → IsCompleteRun (initial_state C) events → IsAtRest (after (initial_state C) events) }
+    ensures { (C : Setting) (events : List Event) → IsWellFormed C → IsCompleteRun (initial_state C) events → IsAtRest (after (initial_state C) events) }
 {}
 
 /// A run, complete or not, has at most 12 events for each instruction that a task has retired and for each task that has
 /// started, and 3 for each core in each phase of the program.
 pub fn a_run_has_few_events()
-    ensures { (C : Setting) (events : List Event) → IsReady C → IsRun (initial_state C) events
+    ensures { (C : Setting) (events : List Event) → IsWellFormed C → IsRun (initial_state C) events
         → length events ≤ 12 * (retired_in (initial_state C) events + started_in (initial_state C) events) + 3 * (C.shape.cores * length C.program.phases) }
 {}
 
 /// Every run terminates: within the limits of programs and fuel, none has more than 25,169,664 events.
 pub fn no_run_goes_on_for_ever()
     ensures { (C : Setting) (events : List Event) → IsReady C → IsRun (initial_state C) events → length events ≤ 25169664 }
+{}
+
+/// At most as many mails are in flight at once: for each core one for each entry of its cache and one more, and one for each lock.
+pub fn few_mails_are_in_flight()
+    ensures { (C : Setting) (events : List Event) → IsWellFormed C → IsRun (initial_state C) events → length (after (initial_state C) events).mails ≤ mails_most C }
+{}
+
+/// Between two actors at most so many mails are in flight at once.
+pub fn few_mails_are_between_two_actors()
+    ensures { (C : Setting) (events : List Event) (from to : Actor) → IsWellFormed C → IsRun (initial_state C) events → between (after (initial_state C) events) from to ≤ between_most C from to }
 {}
 
 /// The order of the mails in flight doesn't matter. In another order the same events may come. They tell the same, and lead to

@@ -6,10 +6,10 @@ mod laws;
 mod stepped;
 
 pub use laws::{
-    a_complete_run_is_at_rest, a_run_has_few_events, a_state_shows_the_stores_of_its_run,
-    a_state_stays_sound, each_load_reads_the_stores_before_it,
+    a_complete_run_is_at_rest, a_ready_setting_is_well_formed, a_run_has_few_events,
+    a_state_shows_the_stores_of_its_run, a_state_stays_sound, each_load_reads_the_stores_before_it,
     every_run_is_sequentially_consistent, every_run_leads_to_a_coherent_state,
-    mails_may_stand_in_any_order, no_run_goes_on_for_ever, no_run_has_a_data_race,
-    the_opened_machine_is_sound,
+    few_mails_are_between_two_actors, few_mails_are_in_flight, mails_may_stand_in_any_order,
+    no_run_goes_on_for_ever, no_run_has_a_data_race, the_opened_machine_is_sound,
 };
 pub use stepped::Stepped;

@@ -1,5 +1,5 @@
 -- The referee's answer to a mode and a document.
-use Rattle.std.specs.Prelude.{◌≡◌, ◌⊎◌, ℕ, ◌<◌, List, length}
+use Rattle.std.specs.Prelude.{◌≡◌, ◌⊎◌, ℕ, ◌<◌, List, ◌++◌, length}
 use Rattle.region_table.specs.Program.{ProgramParts}
 use Rattle.claims.specs.declared.claim.Claim.{Claim}
 use Rattle.claims.specs.declared.claim.ClaimFault.{ClaimFault}
@@ -16,7 +16,11 @@ use Rattle.claims.specs.Verdict.{verdict_text}
 use Rattle.claims.specs.declared.right.RightClaim.{RightClaim}
 use Rattle.claims.specs.declared.right.RightClaim.TheVariants.{Whole, Refused}
 use Rattle.claims.specs.Judge.{IsVerdict}
+use Rattle.claims.specs.declared.diagnosis.Diagnosis.{Diagnosis}
+use Rattle.claims.specs.Diagnosis.{IsDiagnosis}
+use Rattle.claims.specs.DiagnosisText.{diagnosis_text}
 use Rattle.claims.specs.Right.{IsRightBy, IsRightClaim, IsLeastClaim}
+use Rattle.text_places.specs.Places.{text_places}
 use Rattle.run_report.specs.Texts.{HasChecked, IsUnfit}
 use Rattle.program_outside.specs.declared.ends.Output.{Output}
 use Rattle.referee_top.specs.declared.mode.RefereeMode.{RefereeMode}
@@ -76,6 +80,19 @@ pub record IsJudged (P : ProgramParts) (c : Claim) (out : Reply) : Type 0 where
   pub right : IsVerdict P c verdict
   pub answer : out ≡ verdict_reply verdict
 
+-- the status and the lines of a verdict, and then the lines of a diagnosis
+abbrev pub diagnosis_reply : ProgramParts → Claim → Verdict → Diagnosis → Reply
+diagnosis_reply P c v d =
+    record { status = verdict_status v; bytes = verdict_text v ++ diagnosis_text c.question.text P.regions (text_places c.question.text) d }
+
+-- the verdict on a claim of a program's run, and what leads from it to the fault
+pub record IsDiagnosed (P : ProgramParts) (c : Claim) (out : Reply) : Type 0 where
+  pub verdict : Verdict
+  pub right : IsVerdict P c verdict
+  pub diagnosis : Diagnosis
+  pub leads : IsDiagnosis P c verdict diagnosis
+  pub answer : out ≡ diagnosis_reply P c verdict diagnosis
+
 -- the claim of a program's run by the grants of an order
 pub record IsOrdered (P : ProgramParts) (o : GrantOrder) (out : Reply) : Type 0 where
   pub claim : RightClaim
@@ -112,6 +129,7 @@ IsUnanswered q IsRight line = IsUnfit q.text line ⊎ HasChecked q.text (λ P. I
 -- what each mode does with a document, whose text has a checked program
 abbrev pub mode_done : RefereeMode → List ℕ → Reply → Type 0
 mode_done mode.TheVariants.Judge document out = HasTold IsClaimDocument document (λ c. HasChecked c.question.text (λ P. IsJudged P c out))
+mode_done mode.TheVariants.Diagnose document out = HasTold IsClaimDocument document (λ c. HasChecked c.question.text (λ P. IsDiagnosed P c out))
 mode_done mode.TheVariants.Answer document out = HasTold IsOrderDocument document (λ o. HasChecked o.question.text (λ P. IsOrdered P o out))
 mode_done mode.TheVariants.Least document out = HasTold IsQuestionDocument document (λ q. HasChecked q.text (λ P. IsLeastReply P q out))
 
@@ -119,6 +137,7 @@ mode_done mode.TheVariants.Least document out = HasTold IsQuestionDocument docum
 -- asked for would have more bytes than a document may have
 abbrev pub refused_with : RefereeMode → List ℕ → List ℕ → Type 0
 refused_with mode.TheVariants.Judge document line = IsFaulty HasFault document line ⊎ HasTold IsClaimDocument document (λ c. IsUnfit c.question.text line)
+refused_with mode.TheVariants.Diagnose document line = IsFaulty HasFault document line ⊎ HasTold IsClaimDocument document (λ c. IsUnfit c.question.text line)
 refused_with mode.TheVariants.Answer document line = IsFaulty HasOrderFault document line ⊎ HasTold IsOrderDocument document (λ o. IsUnanswered o.question (λ P. IsRightClaim P o.question o.grants) line)
 refused_with mode.TheVariants.Least document line = IsFaulty HasQuestionFault document line ⊎ HasTold IsQuestionDocument document (λ q. IsUnanswered q (λ P. IsLeastClaim P q) line)
 

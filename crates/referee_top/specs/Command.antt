@@ -14,6 +14,7 @@ referee_command = with_rule (bare (new_app (codes "referee"))) (text_rule (codes
 abbrev pub referee_mode_named : Text → Option RefereeMode
 referee_mode_named text =
     if bytes_eq text (codes "judge") then Some mode.TheVariants.Judge
+    else if bytes_eq text (codes "diagnose") then Some mode.TheVariants.Diagnose
     else if bytes_eq text (codes "answer") then Some mode.TheVariants.Answer
     else if bytes_eq text (codes "least") then Some mode.TheVariants.Least
     else None

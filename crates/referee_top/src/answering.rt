@@ -4,21 +4,23 @@ ghost use Rattle.claims.specs.Claim.{IsClaimDocument, IsQuestion, claim_text as 
 ghost use Rattle.claims.specs.Judge.{IsJudgeable};
 ghost use Rattle.claims.specs.Right.{IsRightClaim, IsLeastClaim};
 ghost use Rattle.run_report.specs.Texts.{IsStop};
+ghost use Rattle.text_places.specs.Places.{text_places};
 ghost use Rattle.referee_top.specs.declared.mode.RefereeMode.TheVariants as mode;
-ghost use Rattle.referee_top.specs.Answers.{IsAnswer, IsJudged, IsOrdered, IsLeastReply, IsTooLarge, IsUnwritten, mode_done, refused_with, verdict_reply, verdict_status, claim_reply};
+ghost use Rattle.referee_top.specs.Answers.{IsAnswer, IsJudged, IsDiagnosed, IsOrdered, IsLeastReply, IsTooLarge, IsUnwritten, mode_done, refused_with, verdict_reply, verdict_status, claim_reply};
 
-use crate::documents::{claim_in, order_in, question_in, refused};
+use crate::documents::{claim_in, order_in, places_of, question_in, refused};
 use crate::mode::RefereeMode;
 use crate::status::RefereeStatus;
 use claims::{
     Claim, ClaimFault, ClaimTextError, GrantOrder, Question, RightClaim, Verdict, claim_text,
-    judge, least_claim, push_verdict, right_claim,
+    diagnose, judge, least_claim, push_diagnosis, push_verdict, right_claim,
 };
 use dn_base::{Memory, Sequence};
 use effect_checker::Checked;
 use program_outside::Output;
 use run_report::{Stop, checked_of};
 use std::alloc::Global;
+use text_places::Places;
 
 /// A status, and all bytes that are to be written.
 pub type Reply = Output<RefereeStatus>;
@@ -77,6 +79,29 @@ fn judged(alloc: Global, checked: &Checked, claim: &Claim) -> Result<Reply, Memo
     say(alloc, &verdict)
 }
 
+/// The verdict on a claim, and what leads from it to the fault, by the places of the claim's text.
+fn diagnosed(
+    alloc: Global,
+    checked: &Checked,
+    places: &Places,
+    claim: &Claim,
+) -> Result<Reply, Memory>
+    requires claim { IsJudgeable claim.now }
+    requires places { places.now ≡ text_places claim.now.question.text }
+    ensures { IfOk result (IsDiagnosed checked.now claim.now) }
+{
+    let verdict = judge(alloc, checked, claim)?;
+    let diagnosis = diagnose(alloc, checked, claim, &verdict)?;
+    let text = claim.question.text.as_slice();
+    let mut bytes = Vec::new(alloc);
+    push_verdict(&mut bytes, &verdict)?;
+    push_diagnosis(&mut bytes, text, checked.program(), places, &diagnosis)?;
+    Ok(Output {
+        status: status_of(&verdict),
+        bytes: Sequence::from_vec(bytes),
+    })
+}
+
 /// The claim of the run by the grants of an order.
 fn ordered(alloc: Global, checked: &Checked, order: GrantOrder) -> Result<Reply, Stop>
     requires { IsOrder order }
@@ -113,6 +138,17 @@ fn judge_document(alloc: Global, document: &[u8]) -> Result<Reply, Stop>
     Ok(judged(alloc, &checked, &claim)?)
 }
 
+/// Judges the claim of a document, and says what leads from the verdict to the fault.
+fn diagnose_document(alloc: Global, document: &[u8]) -> Result<Reply, Stop>
+    ensures done { IfOk result (mode_done mode.Diagnose document.now) }
+    ensures stop { IfErr result (IsStop (refused_with mode.Diagnose document.now)) }
+{
+    let claim = claim_in(alloc, document)?;
+    let checked = checked_of(alloc, claim.question.text.as_slice())?;
+    let places = places_of(alloc, claim.question.text.as_slice())?;
+    Ok(diagnosed(alloc, &checked, &places, &claim)?)
+}
+
 /// Writes the claim of the run that goes by the grants of a document.
 fn answer_document(alloc: Global, document: &[u8]) -> Result<Reply, Stop>
     ensures done { IfOk result (mode_done mode.Answer document.now) }
@@ -140,6 +176,7 @@ fn done(alloc: Global, asked: RefereeMode, document: &[u8]) -> Result<Reply, Sto
 {
     match asked {
         RefereeMode::Judge => judge_document(alloc, document),
+        RefereeMode::Diagnose => diagnose_document(alloc, document),
         RefereeMode::Answer => answer_document(alloc, document),
         RefereeMode::Least => least_document(alloc, document),
     }

@@ -5,14 +5,16 @@ ghost use Rattle.claims.specs.Claim.{IsClaimDocument};
 ghost use Rattle.claims.specs.Faults.{HasFault};
 ghost use Rattle.claims.specs.Refusal.{refusal_text};
 ghost use Rattle.run_report.specs.Texts.{IsStop};
+ghost use Rattle.text_places.specs.Places.{text_places};
 ghost use Rattle.referee_top.specs.Answers.{IsFaulty};
 
 use claims::{
     Claim, ClaimFault, GrantOrder, Question, claim_line, read_claim, read_order, read_question,
 };
-use dn_base::Sequence;
+use dn_base::{Memory, Sequence};
 use run_report::Stop;
 use std::alloc::Global;
+use text_places::{Places, located_program};
 
 /// The refusal of a document, read or to be written, for this fault, which isn't out of memory.
 pub(crate) fn refused(alloc: Global, fault: ClaimFault) -> Stop
@@ -67,5 +69,18 @@ pub(crate) fn question_in(alloc: Global, document: &[u8]) -> Result<Question, St
         Ok(question) => Ok(question),
         Err(ClaimFault::Memory) => Err(Stop::Memory),
         Err(fault) => Err(refused(alloc, fault)),
+    }
+}
+
+/// The places of a text that has a program, so that only memory can be wanting.
+///
+/// # Errors
+/// `Memory` where there is no room.
+pub(crate) fn places_of(alloc: Global, text: &[u8]) -> Result<Places, Memory>
+    ensures { IfOk result (λ places. places ≡ text_places text.now) }
+{
+    match located_program(alloc, text) {
+        Ok(located) => Ok(located.places),
+        Err(_) => Err(Memory),
     }
 }

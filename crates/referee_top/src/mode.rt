@@ -3,6 +3,8 @@
 pub enum RefereeMode {
     /// Takes a claim, and says whether it agrees, or where it first differs.
     Judge,
+    /// Takes a claim, says what the mode judge says of it, and then what leads from there to the fault.
+    Diagnose,
     /// Takes a question and the order of the grants, the first four parts of a claim, and prints the claim of the run by these grants.
     Answer,
     /// Takes a question, the first three parts of a claim, and prints the claim of the run by the least grants.

@@ -15,6 +15,7 @@ fn named(text: &str) -> Option<RefereeMode>
 {
     match text {
         "judge" => Some(RefereeMode::Judge),
+        "diagnose" => Some(RefereeMode::Diagnose),
         "answer" => Some(RefereeMode::Answer),
         "least" => Some(RefereeMode::Least),
         _ => None,
@@ -40,7 +41,7 @@ fn mode(matches: &ArgMatches<'_>) -> Option<RefereeMode>
 
 /// The mode that the command words ask for. The program's own name isn't among them.
 ///
-/// The command has the option `--mode`, with the value judge, answer or least, and takes no other words. The option may be
+/// The command has the option `--mode`, with the value judge, diagnose, answer or least, and takes no other words. The option may be
 /// given once at most, as `--mode least` or `--mode=least`. The default is judge.
 ///
 /// # Errors

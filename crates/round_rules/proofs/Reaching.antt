@@ -7,7 +7,7 @@ use Rattle.machine_rules.specs.Next.{next, enabled}
 use Rattle.machine_rules.specs.Runs.{after, IsRun}
 use Rattle.std.proofs.lemmas.Nat.{mul-le}
 use Rattle.phase_barrier.specs.Barrier.{all_arrived}
-use Rattle.machine_rules.specs.Sound.{IsMachine, IsSound, rounds}
+use Rattle.machine_rules.specs.Sound.{IsReady, IsMachine, IsSound, rounds}
 use Rattle.machine_rules.specs.Flight.{bit}
 use Rattle.machine_rules.proofs.OpenedFacts.{opened-setting}
 use Rattle.machine_rules.proofs.RunsKept.{run-setting}
@@ -55,11 +55,11 @@ reached-few C S es reached run =
     let whole : IsRun (initial_state C) (reached.before ++ es) = run-append (initial_state C) reached.before es reached.run (subst (λ (U : State). IsRun U es) reached.leads run) in
     omega (arith, run-ends C (reached.before ++ es) reached.ready whole, length-append reached.before es)
 
-pub most-rounds : (S : State) → IsMachine S → S.keeper.phase ≤ length S.setting.program.phases → rounds S ≤ 65
-most-rounds S machine within = by_all (all_arrived S.keeper) where
+pub most-rounds : (S : State) → IsReady S.setting → S.keeper.phase ≤ length S.setting.program.phases → rounds S ≤ 65
+most-rounds S ready within = by_all (all_arrived S.keeper) where
   by_all : (b : Bool) → S.keeper.phase + bit b ≤ 65
-  by_all true = omega (arith, within, machine.program.phases)
-  by_all false = omega (arith, within, machine.program.phases)
+  by_all true = omega (arith, within, ready.program.phases)
+  by_all false = omega (arith, within, ready.program.phases)
 
 -- no actor's next number is near its end
 pub reached-numbers : (C : Setting) (S : State) (place : ℕ) → C.shape.cores ≤ 16 → IsReached C S → slice_index S.numbers place < 4294967000
@@ -67,5 +67,5 @@ reached-numbers C S place most reached =
     let all = (run-all C reached.before reached.ready reached.run).0 in
     let sound : IsSound S (length reached.before) = subst (λ (U : State). IsSound U (length reached.before)) (sym reached.leads) all in
     let cores : S.setting.shape.cores ≡ C.shape.cores = ap (λ (D : Setting). D.shape.cores) (reached-setting C S reached) in
-    let letters = mul-le S.setting.shape.cores (rounds S) 16 65 (omega (arith, most, cores)) (most-rounds S sound.machine sound.within) in
+    let letters = mul-le S.setting.shape.cores (rounds S) 16 65 (omega (arith, most, cores)) (most-rounds S (subst IsReady (sym (reached-setting C S reached)) reached.ready) sound.within) in
     omega (arith, sound.sent place, letters, run-ends C reached.before reached.ready reached.run)

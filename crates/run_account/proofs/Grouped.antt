@@ -17,6 +17,7 @@ use Rattle.machine_rules.proofs.RunsKept.{run-setting}
 use Rattle.machine_rules.proofs.RunsCoherent.{run-coherent}
 use Rattle.machine_rules.proofs.SoundEvents.{sound-next}
 use Rattle.machine_rules.proofs.OpenedSound.{opened-sound}
+use Rattle.machine_rules.proofs.AnySize.{well-formed}
 use Rattle.machine_rules.proofs.OpenedFacts.{opened-setting}
 use Rattle.machine_rules.proofs.NoPhases.{no-phases-run}
 use Rattle.run_account.specs.declared.item.Item.{Item}
@@ -126,7 +127,7 @@ module _ (C : Setting) (ready : IsReady C) (events : List Event) (run : IsRun (i
   cores-each : (m : Measure) → Each (For by.Core C.shape.cores m) (items_from (initial_state C) (no_departures C) (no_handings C) events)
   cores-each m =
       run-items (For by.Core C.shape.cores m) HasSound (λ S e sound may. (sound.0 + 1, sound-next S sound.0 e sound.1 may)) (by-core m)
-      (0, opened-sound C ready.context ready.program ready.checked)
+      (0, opened-sound C (well-formed C ready))
 
   -- ---- by phase
 

@@ -35,7 +35,7 @@ abbrev pub sum_of_run : Grouping → Measure → State → List Event → ℕ
 sum_of_run by m S events =
     sum_of_groups (regions_from 0 S.setting.program.regions) by (groups_in S.setting.program S.setting.shape.cores by) m (items_of_run S events)
 
--- whether each item of a measure has a word: all measures but those of grants
+-- whether each item of a measure of an account has a word: all but those of grants
 abbrev pub is_of_words : Measure → Bool
 is_of_words m = nat_lt (measure_index m) 24
 

@@ -1,5 +1,5 @@
 -- An account as it is printed: as a table with a row for each measure and a column for each group, or as csv lines for other
--- programs.
+-- programs. A run beside lists of sharers is printed in the same ways, with two columns for each group.
 use Rattle.std.specs.Prelude.{ℕ, ◌-◌, List, [], ◌++◌, length, replicate, codes, flat_map, if◌then◌else◌, Bool, true, nat_lt}
 use Rattle.std.specs.List.{range_with_len}
 use Rattle.std.specs.Fmt.{decimal}
@@ -11,7 +11,9 @@ use Rattle.run_account.specs.declared.measure.Measure.{Measure}
 use Rattle.run_account.specs.Tallies.{Tallies, tally_of}
 use Rattle.run_account.specs.declared.form.Form.{Form}
 use Rattle.run_account.specs.declared.form.Form as form
-use Rattle.run_account.specs.Names.{measure_word, all_measures, grouping_word, group_name}
+use Rattle.run_account.specs.declared.list_row.ListRow.{ListRow}
+use Rattle.run_account.specs.declared.list_row.ListRow.TheVariants.{Pair, Single}
+use Rattle.run_account.specs.Names.{measure_word, all_measures, list_measures, list_rows, row_word, grouping_word, group_name}
 
 -- ---- the table
 
@@ -40,6 +42,25 @@ tallies_row t m = left_cell (measure_word m) ++ flat_map (tally_cell t m) (range
 unfoldable pub table_text : ProgramParts → Tallies → List ℕ
 table_text P t = names_row P t ++ flat_map (tallies_row t) all_measures
 
+-- ---- the table of a run beside lists of sharers
+
+-- two columns for each group: the run, and the same with lists
+abbrev pub group_cells : ProgramParts → Grouping → ℕ → List ℕ
+group_cells P grouping group = name_cell P grouping group ++ right_cell (codes "lists")
+
+abbrev pub row_cells : Tallies → ListRow → ℕ → List ℕ
+row_cells t (Pair here lists) group = tally_cell t here group ++ tally_cell t lists group
+row_cells t (Single m) group = right_cell [] ++ tally_cell t m group
+
+unfoldable pub groups_row : ProgramParts → Tallies → List ℕ
+groups_row P t = left_cell (grouping_word t.by) ++ flat_map (group_cells P t.by) (range_with_len 0 (length t.numbers)) ++ newline
+
+unfoldable pub list_row_text : Tallies → ListRow → List ℕ
+list_row_text t row = left_cell (row_word row) ++ flat_map (row_cells t row) (range_with_len 0 (length t.numbers)) ++ newline
+
+unfoldable pub lists_table_text : ProgramParts → Tallies → List ℕ
+lists_table_text P t = groups_row P t ++ flat_map (list_row_text t) list_rows
+
 -- ---- the lines
 
 unfoldable pub csv_head : List ℕ
@@ -63,11 +84,15 @@ csv_line P t m group =
 abbrev pub csv_lines : ProgramParts → Tallies → Measure → List ℕ
 csv_lines P t m = flat_map (csv_line P t m) (range_with_len 0 (length t.numbers))
 
-unfoldable pub csv_text : ProgramParts → Tallies → List ℕ
-csv_text P t = csv_head ++ flat_map (csv_lines P t) all_measures
+unfoldable pub csv_text : List Measure → ProgramParts → Tallies → List ℕ
+csv_text ms P t = csv_head ++ flat_map (csv_lines P t) ms
 
 -- ---- both
 
 abbrev pub account_text : Form → ProgramParts → Tallies → List ℕ
 account_text form.TheVariants.Text P t = table_text P t
-account_text form.TheVariants.Csv P t = csv_text P t
+account_text form.TheVariants.Csv P t = csv_text all_measures P t
+
+abbrev pub lists_text : Form → ProgramParts → Tallies → List ℕ
+lists_text form.TheVariants.Text P t = lists_table_text P t
+lists_text form.TheVariants.Csv P t = csv_text list_measures P t

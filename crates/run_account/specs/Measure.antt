@@ -1,9 +1,9 @@
--- The measures of an account, and their order.
+-- The measures of an account, and of a run beside lists of sharers, and their order.
 use Rattle.std.specs.Prelude.{ℕ, Bool, ◌==◌}
 use Rattle.run_account.specs.declared.measure.Measure.{Measure}
-use Rattle.run_account.specs.declared.measure.Measure.TheVariants.{Loads, Stores, LoadsLocal, StoresSilent, Registers, Misses, MissesFirst, MissesPhase, MissesLock, MissesEvicted, MissesTaken, DroppedPhase, DroppedLock, DroppedPhaseCurrent, DroppedLockCurrent, KeptTouched, KeptSignature, UntoldCopies, Taken, RepliesHome, RepliesCore, Bounces, EvictedCopies, EvictedRegistered, GrantsAtOnce, GrantsQueued}
+use Rattle.run_account.specs.declared.measure.Measure.TheVariants.{Loads, Stores, LoadsLocal, StoresSilent, Registers, Misses, MissesFirst, MissesPhase, MissesLock, MissesEvicted, MissesTaken, DroppedPhase, DroppedLock, DroppedPhaseCurrent, DroppedLockCurrent, KeptTouched, KeptSignature, UntoldCopies, Taken, RepliesHome, RepliesCore, Bounces, EvictedCopies, EvictedRegistered, GrantsAtOnce, GrantsQueued, Messages, WaitsRead, WaitsWrite, ListMessages, ListReadRequests, ListWriteRequests, ListForwards, ListReplies, ListInvalidations, ListAcknowledgements, ListPutBacks, ListPutShares, ListPutAcks, ListWaitsRead, ListWaitsWrite, WaitsHereAlone, WaitsListAlone}
 
--- the twenty-six measures in their order
+-- the twenty-six measures of an account in their order, and then the seventeen of a run beside lists
 abbrev pub measure_index : Measure → ℕ
 measure_index Loads = 0
 measure_index Stores = 1
@@ -31,6 +31,23 @@ measure_index EvictedCopies = 22
 measure_index EvictedRegistered = 23
 measure_index GrantsAtOnce = 24
 measure_index GrantsQueued = 25
+measure_index Messages = 26
+measure_index WaitsRead = 27
+measure_index WaitsWrite = 28
+measure_index ListMessages = 29
+measure_index ListReadRequests = 30
+measure_index ListWriteRequests = 31
+measure_index ListForwards = 32
+measure_index ListReplies = 33
+measure_index ListInvalidations = 34
+measure_index ListAcknowledgements = 35
+measure_index ListPutBacks = 36
+measure_index ListPutShares = 37
+measure_index ListPutAcks = 38
+measure_index ListWaitsRead = 39
+measure_index ListWaitsWrite = 40
+measure_index WaitsHereAlone = 41
+measure_index WaitsListAlone = 42
 
 -- whether two measures are one
 abbrev pub same_measure : Measure → Measure → Bool

@@ -21,7 +21,7 @@ fn push_spaces(out: &mut Vec<u8>, count: usize) -> Result<(), Memory>
 }
 
 #[tactic(auto, unfolding(crate::specs::Forms::left_cell))]
-fn push_left(out: &mut Vec<u8>, text: &[u8]) -> Result<(), Memory>
+pub(crate) fn push_left(out: &mut Vec<u8>, text: &[u8]) -> Result<(), Memory>
     ensures { OnOk result (out.new.items ≡ out.old.items ++ left_cell text.now) }
 {
     push(out, text)?;
@@ -29,7 +29,7 @@ fn push_left(out: &mut Vec<u8>, text: &[u8]) -> Result<(), Memory>
 }
 
 #[tactic(auto, unfolding(crate::specs::Forms::right_cell))]
-fn push_right(out: &mut Vec<u8>, text: &[u8]) -> Result<(), Memory>
+pub(crate) fn push_right(out: &mut Vec<u8>, text: &[u8]) -> Result<(), Memory>
     ensures { OnOk result (out.new.items ≡ out.old.items ++ right_cell text.now) }
 {
     push(out, b" ")?;
@@ -46,7 +46,7 @@ fn push_number(out: &mut Vec<u8>, number: u64) -> Result<(), Memory>
 }
 
 /// Adds the cell with the name of a group.
-fn push_group(
+pub(crate) fn push_group(
     out: &mut Vec<u8>,
     program: &Program,
     by: Grouping,
@@ -77,7 +77,7 @@ fn push_groups(
 }
 
 /// Adds the number of a measure in a group.
-fn push_tally(
+pub(crate) fn push_tally(
     out: &mut Vec<u8>,
     table: &AccountTable,
     measure: Measure,

@@ -3,7 +3,7 @@ ghost use Rattle.std.specs.List.{range_with_len};
 ghost use Rattle.run_account.specs.Forms.{csv_head, csv_fields, has_csv_line, csv_line, csv_lines, csv_text};
 ghost use Rattle.run_account.specs.Names.{group_name};
 
-use crate::names::{measure_name, measures, region_bytes};
+use crate::names::{measure_name, region_bytes};
 use crate::{AccountTable, Grouping, Measure};
 use dn_base::Memory;
 use itoa::Buffer;
@@ -119,15 +119,16 @@ fn push_measures(
     Ok(())
 }
 
-/// Adds the head line and all other lines.
+/// Adds the head line, and the lines of these measures.
 #[tactic(auto, unfolding(crate::specs::Forms::csv_text))]
 pub(crate) fn push_csv(
     out: &mut Vec<u8>,
     program: &Program,
     table: &AccountTable,
+    measures: &[Measure],
 ) -> Result<(), Memory>
-    ensures { OnOk result (out.new.items ≡ out.old.items ++ csv_text program.now table.now) }
+    ensures { OnOk result (out.new.items ≡ out.old.items ++ csv_text measures.now program.now table.now) }
 {
     push_csv_head(out)?;
-    push_measures(out, program, table, &measures())
+    push_measures(out, program, table, measures)
 }

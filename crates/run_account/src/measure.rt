@@ -1,7 +1,8 @@
 ghost use Rattle.std.specs.Prelude.{◌≡◌, ◌<◌};
 ghost use Rattle.run_account.specs.Measure.{measure_index};
 
-/// What an account counts, in the order in which it is printed. A copy is a Valid entry.
+/// What is counted of a run, in the order in which it is printed: first the twenty-six measures of an account, and then the
+/// seventeen of a run beside lists of sharers. A copy is a Valid entry.
 #[derive(Clone, Copy)]
 pub enum Measure {
     /// Loads that retire.
@@ -57,13 +58,48 @@ pub enum Measure {
     GrantsAtOnce,
     /// Grants of a lock that was handed on to the next core of its queue.
     GrantsQueued,
+    /// Mails of the kinds ReadReq to WbAck that are handled. They count for the core that they serve: the reader, the core that registers the
+    /// word, or the one that writes it back.
+    Messages,
+    /// Loads that retire after a wait for their word.
+    WaitsRead,
+    /// Stores that retire after a wait for their word.
+    WaitsWrite,
+    /// Messages with lists of sharers: all of the next nine.
+    ListMessages,
+    /// Requests of a word to read.
+    ListReadRequests,
+    /// Requests of a word to write.
+    ListWriteRequests,
+    /// Requests that a home passes on to the core that owns the word.
+    ListForwards,
+    /// Replies to requests.
+    ListReplies,
+    /// Messages that tell a core to drop its copy.
+    ListInvalidations,
+    /// Answers to invalidations.
+    ListAcknowledgements,
+    /// Values of owned words that go back to their homes.
+    ListPutBacks,
+    /// Messages that tell a home that a copy has gone to make room.
+    ListPutShares,
+    /// Answers to the messages about a word that has gone to make room.
+    ListPutAcks,
+    /// Loads that wait with lists.
+    ListWaitsRead,
+    /// Stores that wait with lists.
+    ListWaitsWrite,
+    /// Loads and stores that waited in the run and don't wait with lists.
+    WaitsHereAlone,
+    /// Loads and stores that wait with lists and didn't wait in the run.
+    WaitsListAlone,
 }
 
 impl Measure {
-    /// The index of the measure among the twenty-six.
+    /// The index of the measure among the forty-three.
     pub fn index(self) -> usize
         ensures value { result ≡ measure_index self }
-        ensures within { result < 26 }
+        ensures within { result < 43 }
     {
         self as usize
     }

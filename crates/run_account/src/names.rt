@@ -1,10 +1,12 @@
 ghost use Rattle.std.specs.Prelude.{◌≡◌, slice_get};
-ghost use Rattle.run_account.specs.Names.{measure_word, all_measures, grouping_word, region_name};
+ghost use Rattle.run_account.specs.declared.list_row.ListRow.TheVariants.{Pair};
+ghost use Rattle.run_account.specs.Names.{measure_word, all_measures, list_measures, list_rows, row_word, grouping_word, region_name};
 
+use crate::list_row::ListRow;
 use crate::{Grouping, Measure};
 use region_table::Region;
 
-/// The measures in the order in which they are printed.
+/// The measures of an account in the order in which they are printed.
 #[tactic(auto, unfolding(crate::specs::Names::all_measures))]
 pub(crate) fn measures() -> [Measure; 26]
     ensures { result ≡ all_measures }
@@ -39,6 +41,72 @@ pub(crate) fn measures() -> [Measure; 26]
     ]
 }
 
+/// The measures of a run beside lists of sharers.
+#[tactic(auto, unfolding(crate::specs::Names::list_measures))]
+pub(crate) fn measures_beside_lists() -> [Measure; 17]
+    ensures { result ≡ list_measures }
+{
+    [
+        Measure::Messages,
+        Measure::WaitsRead,
+        Measure::WaitsWrite,
+        Measure::ListMessages,
+        Measure::ListReadRequests,
+        Measure::ListWriteRequests,
+        Measure::ListForwards,
+        Measure::ListReplies,
+        Measure::ListInvalidations,
+        Measure::ListAcknowledgements,
+        Measure::ListPutBacks,
+        Measure::ListPutShares,
+        Measure::ListPutAcks,
+        Measure::ListWaitsRead,
+        Measure::ListWaitsWrite,
+        Measure::WaitsHereAlone,
+        Measure::WaitsListAlone,
+    ]
+}
+
+/// A measure of the run beside the same with lists.
+fn pair(here: Measure, lists: Measure) -> ListRow
+    ensures { result ≡ Pair here lists }
+{
+    ListRow::Pair { here, lists }
+}
+
+/// The rows of the table of a run beside lists.
+#[tactic(auto, unfolding(crate::specs::Names::list_rows))]
+pub(crate) fn rows_beside_lists() -> [ListRow; 14]
+    ensures { result ≡ list_rows }
+{
+    [
+        pair(Measure::Messages, Measure::ListMessages),
+        pair(Measure::WaitsRead, Measure::ListWaitsRead),
+        pair(Measure::WaitsWrite, Measure::ListWaitsWrite),
+        ListRow::Single(Measure::ListReadRequests),
+        ListRow::Single(Measure::ListWriteRequests),
+        ListRow::Single(Measure::ListForwards),
+        ListRow::Single(Measure::ListReplies),
+        ListRow::Single(Measure::ListInvalidations),
+        ListRow::Single(Measure::ListAcknowledgements),
+        ListRow::Single(Measure::ListPutBacks),
+        ListRow::Single(Measure::ListPutShares),
+        ListRow::Single(Measure::ListPutAcks),
+        ListRow::Single(Measure::WaitsHereAlone),
+        ListRow::Single(Measure::WaitsListAlone),
+    ]
+}
+
+/// What a row is called.
+pub(crate) fn row_name(row: ListRow) -> &'static [u8]
+    ensures { result.now ≡ row_word row }
+{
+    match row {
+        ListRow::Pair { here, .. } => measure_name(here),
+        ListRow::Single(measure) => measure_name(measure),
+    }
+}
+
 /// The word for a measure.
 pub(crate) fn measure_name(measure: Measure) -> &'static [u8]
     ensures { result.now ≡ measure_word measure }
@@ -70,6 +138,23 @@ pub(crate) fn measure_name(measure: Measure) -> &'static [u8]
         Measure::EvictedRegistered => b"evicted-registered",
         Measure::GrantsAtOnce => b"grants-at-once",
         Measure::GrantsQueued => b"grants-queued",
+        Measure::Messages => b"messages",
+        Measure::WaitsRead => b"waits-read",
+        Measure::WaitsWrite => b"waits-write",
+        Measure::ListMessages => b"list-messages",
+        Measure::ListReadRequests => b"list-read-requests",
+        Measure::ListWriteRequests => b"list-write-requests",
+        Measure::ListForwards => b"list-forwards",
+        Measure::ListReplies => b"list-replies",
+        Measure::ListInvalidations => b"list-invalidations",
+        Measure::ListAcknowledgements => b"list-acknowledgements",
+        Measure::ListPutBacks => b"list-put-backs",
+        Measure::ListPutShares => b"list-put-shares",
+        Measure::ListPutAcks => b"list-put-acks",
+        Measure::ListWaitsRead => b"list-waits-read",
+        Measure::ListWaitsWrite => b"list-waits-write",
+        Measure::WaitsHereAlone => b"waits-here-alone",
+        Measure::WaitsListAlone => b"waits-list-alone",
     }
 }
 

@@ -1,10 +1,12 @@
 ghost use Rattle.std.specs.Prelude.{◌≡◌, ◌++◌, OnOk};
-ghost use Rattle.run_account.specs.Forms.{account_text};
+ghost use Rattle.run_account.specs.Forms.{account_text, lists_text};
 
 use crate::AccountTable;
+use crate::beside::push_lists_table;
 use crate::columns::push_table;
 use crate::csv::push_csv;
 use crate::form::Form;
+use crate::names::{measures, measures_beside_lists};
 use dn_base::Memory;
 use region_table::Program;
 
@@ -25,6 +27,27 @@ pub fn push_account(
 {
     match form {
         Form::Text => push_table(out, program, table),
-        Form::Csv => push_csv(out, program, table),
+        Form::Csv => push_csv(out, program, table, &measures()),
+    }
+}
+
+/// Appends a run beside lists of sharers in one of its forms: the numbers of a table, whose groups are those of this program.
+///
+/// The table has two columns for each group, the run and the same with lists; a measure without a partner has its number in the
+/// second. The csv lines are as those of an account, of the measures of a run beside lists.
+///
+/// # Errors
+/// `Memory` where there is no room for the text.
+pub fn push_lists(
+    out: &mut Vec<u8>,
+    form: Form,
+    program: &Program,
+    table: &AccountTable,
+) -> Result<(), Memory>
+    ensures { OnOk result (out.new.items ≡ out.old.items ++ lists_text form program.now table.now) }
+{
+    match form {
+        Form::Text => push_lists_table(out, program, table),
+        Form::Csv => push_csv(out, program, table, &measures_beside_lists()),
     }
 }

@@ -7,7 +7,7 @@ use Rattle.dn_base.specs.declared.ids.CoreId.{CoreId}
 use Rattle.dn_base.specs.declared.ids.LockId.{LockId}
 use Rattle.dn_base.specs.declared.ids.Grant.{Grant}
 use Rattle.dn_base.specs.declared.ids.LoadSeen.{LoadSeen}
-use Rattle.region_table.specs.Program.{ProgramParts, IsProgram}
+use Rattle.region_table.specs.Program.{ProgramParts}
 use Rattle.region_table.specs.declared.declared.TaskDecl.{TaskDecl}
 use Rattle.region_table.specs.declared.declared.Phase.{Phase}
 use Rattle.region_table.specs.Tasks.{declared, IsDeclaration}
@@ -19,7 +19,7 @@ use Rattle.rv_core.specs.Need.{need_of}
 use Rattle.rv_core.specs.Step.{advanced}
 use Rattle.flat_machine.specs.Step.{Started, At, wish, wish_unless, step_by}
 use Rattle.flat_machine.specs.Grants.{grant_of}
-use Rattle.flat_machine.specs.Laws.{at_memory}
+use Rattle.flat_machine.specs.Laws.{AreCoresRising, at_memory}
 use Rattle.run_agreement.specs.Worlds.{LeadsToRun, past_acquire}
 use Rattle.run_agreement.specs.Cores.{world_of, ChangesOne, step_of_task, IsFreeAmong, IsAgreed}
 use Rattle.run_agreement.proofs.CoreByCore.{agreed-step, agreed-grant}
@@ -86,7 +86,7 @@ changes-one K K' L L' phase core d t loads h own =
     }
 
 -- a task does what it needs
-pub world-step : (C : Setting) (gs : List Grant) (K K' : States) (L L' : Loads) (phase core : ℕ) (p : Phase) (d : TaskDecl) (t t' : TaskState) (loads : List LoadSeen) (needs : Need) (m m' : List ℕ) → IsProgram C.program → IsChecked C.program
+pub world-step : (C : Setting) (gs : List Grant) (K K' : States) (L L' : Loads) (phase core : ℕ) (p : Phase) (d : TaskDecl) (t t' : TaskState) (loads : List LoadSeen) (needs : Need) (m m' : List ℕ) → AreCoresRising C.program → IsChecked C.program
     → declared C.program phase core ≡ Some d → t.end ≡ None → need_of C.program d C.fuel t ≡ needs → K phase core ≡ t → ChangesAt K K' L L' phase core t' loads
     → step_by C.program (at_memory (task_of phase d t (L phase core)) m) (Some needs) ≡ at_memory (task_of phase d t' loads) m'
     → IsWorldAt C gs K L phase p m → IsWorldAt C gs K' L' phase p m'
@@ -106,7 +106,7 @@ world-step C gs K K' L L' phase core p d t t' loads needs m m' program checked d
     (past-same C K K' L L' phase p h.there (λ q c before. change.others q c (λ e f. omega (arith, e, before)))) (λ e among. refl) there
 
 -- a task acquires the free lock that it wants
-pub world-grant : (C : Setting) (gs : List Grant) (K K' : States) (L L' : Loads) (phase core : ℕ) (p : Phase) (d : TaskDecl) (t : TaskState) (lock : LockId) (m : List ℕ) → IsProgram C.program → IsChecked C.program
+pub world-grant : (C : Setting) (gs : List Grant) (K K' : States) (L L' : Loads) (phase core : ℕ) (p : Phase) (d : TaskDecl) (t : TaskState) (lock : LockId) (m : List ℕ) → AreCoresRising C.program → IsChecked C.program
     → declared C.program phase core ≡ Some d → t.end ≡ None → need_of C.program d C.fuel t ≡ need.TheVariants.Acquire lock → K phase core ≡ t
     → ChangesAt K K' L L' phase core (advanced C.program t) (L phase core) → IsFreeAmong p (stands K L phase) lock.0
     → IsWorldAt C gs K L phase p m → IsWorldAt C (gs ++ record { phase = record { 0 = phase }; core = record { 0 = core }; lock = lock } ∷ []) K' L' phase p m
@@ -171,7 +171,7 @@ act {E} S T M M' gs L L' core n m d t t' loads left sent needs inv h a open' wan
     let phase : n.phase ≡ S.keeper.phase = in-phase S M core.0 n d t inv a.works in
     let world : IsWorldAt S.setting gs K L n.phase h.phase h.memory = subst (λ (k : ℕ). IsWorldAt S.setting gs K L k h.phase h.memory) (sym phase) h.world in
     let next : IsWorldAt S.setting gs (with_state K n.phase core.0 t') L' n.phase h.phase memory =
-    world-step S.setting gs K (with_state K n.phase core.0 t') L L' n.phase core.0 h.phase d t t' loads needs h.memory memory inv.machine.program inv.machine.checked a.works.declares open' wants
+    world-step S.setting gs K (with_state K n.phase core.0 t') L L' n.phase core.0 h.phase d t t' loads needs h.memory memory inv.machine.program.order inv.machine.checked a.works.declares open' wants
     (h.shown.here core.0 n t a.works.found a.works.task) (changes-at S T L L' core n m d t t' loads left sent K a) (goes n.phase) world in
     record {
       states = with_state K n.phase core.0 t';
@@ -196,7 +196,7 @@ act-grant {E} S T M gs L L' core n m d t lock left sent inv h a open' wants free
     let phase : n.phase ≡ S.keeper.phase = in-phase S M core.0 n d t inv a.works in
     let world : IsWorldAt S.setting gs K L n.phase h.phase h.memory = subst (λ (k : ℕ). IsWorldAt S.setting gs K L k h.phase h.memory) (sym phase) h.world in
     let next : IsWorldAt S.setting gs' (with_state K n.phase core.0 t') L' n.phase h.phase h.memory =
-    world-grant S.setting gs K (with_state K n.phase core.0 t') L L' n.phase core.0 h.phase d t lock h.memory inv.machine.program inv.machine.checked a.works.declares open' wants
+    world-grant S.setting gs K (with_state K n.phase core.0 t') L L' n.phase core.0 h.phase d t lock h.memory inv.machine.program.order inv.machine.checked a.works.declares open' wants
     (h.shown.here core.0 n t a.works.found a.works.task) (changes-at S T L L' core n m d t t' (L n.phase core.0) left sent K a) free world in
     record {
       states = with_state K n.phase core.0 t';

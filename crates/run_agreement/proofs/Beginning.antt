@@ -7,14 +7,14 @@ use Rattle.std.proofs.lemmas.List.{append-nil, map-append, take_more, length-map
 use Rattle.std.proofs.lemmas.List.Elements.{All-nil, All-cons, All-append, All-weaker}
 use Rattle.std.proofs.lemmas.Option.{none-some, same_Some, slice_get_within, slice_get-get_or, get_or_from_slice_get}
 use Rattle.dn_base.specs.declared.ids.Grant.{Grant}
-use Rattle.region_table.specs.Program.{ProgramParts, IsProgram, tasks_of}
+use Rattle.region_table.specs.Program.{ProgramParts, tasks_of}
 use Rattle.region_table.specs.declared.declared.TaskDecl.{TaskDecl}
 use Rattle.region_table.specs.declared.declared.Phase.{Phase}
 use Rattle.rv_core.specs.Access.{is_held, may_store}
 use Rattle.effect_checker.specs.Checked.{IsChecked}
 use Rattle.flat_machine.specs.Step.{Started, fresh, IsWithin}
 use Rattle.flat_machine.specs.Phases.{Flat, all_tasks, run_all, begin, has_finished, next_phase, settled, initial, initial_flat}
-use Rattle.flat_machine.specs.Laws.{HasTasks, first_segment, StartAlone}
+use Rattle.flat_machine.specs.Laws.{AreCoresRising, HasTasks, first_segment, StartAlone}
 use Rattle.flat_machine.proofs.PhaseLemmas.{settled-more}
 use Rattle.flat_machine.proofs.StartLaws.{start-alone}
 use Rattle.run_agreement.specs.Worlds.{IsWorld, stores, segment_alone, LeadsTo, LeadsToRun, with_phase}
@@ -107,7 +107,7 @@ cond-some : {X : Type 0} (b : Bool) (o : Option X) (x : X) → (if b then o else
 cond-some true o x e = (refl, e)
 cond-some false o x e = absurd (none-some x e)
 
-pub run-begin : (P : ProgramParts) (fuel : ℕ) (gs : List Grant) (W : Flat) (p : Phase) → IsProgram P → IsChecked P → next_phase P W ≡ Some p → LeadsToRun P fuel gs W → LeadsToRun P fuel gs (with_phase W p)
+pub run-begin : (P : ProgramParts) (fuel : ℕ) (gs : List Grant) (W : Flat) (p : Phase) → AreCoresRising P → IsChecked P → next_phase P W ≡ Some p → LeadsToRun P fuel gs W → LeadsToRun P fuel gs (with_phase W p)
 run-begin P fuel gs W p is checked next h =
     let parts = cond-some (list_all has_finished W.tasks) (slice_get P.phases W.begun) p next in
     let same : W ≡ h.flat = rest-same P fuel W h.flat (finished-rest P fuel W parts.0) h.leads in

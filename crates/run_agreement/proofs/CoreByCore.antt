@@ -7,7 +7,7 @@ use Rattle.std.proofs.lemmas.List.Folds.{list_any_none, list_any_at, list_all_at
 use Rattle.std.proofs.lemmas.Option.{none-some, same_Some, slice_get_past, slice_get_within, slice_get-get_or, get_or_from_slice_get}
 use Rattle.dn_base.specs.declared.ids.Grant.{Grant}
 use Rattle.dn_base.specs.declared.ids.LockId.{LockId}
-use Rattle.region_table.specs.Program.{ProgramParts, IsPhase, IsProgram}
+use Rattle.region_table.specs.Program.{ProgramParts}
 use Rattle.region_table.specs.declared.declared.TaskDecl.{TaskDecl}
 use Rattle.region_table.specs.declared.declared.Phase.{Phase}
 use Rattle.rv_core.specs.declared.need.Need.{Need}
@@ -18,7 +18,8 @@ use Rattle.flat_machine.specs.Step.{Started, At, fresh, wish, step_by, flat_step
 use Rattle.flat_machine.specs.Phases.{Flat, has_finished, next_phase, initial}
 use Rattle.flat_machine.specs.Grants.{is_free, grant_of, with_task}
 use Rattle.flat_machine.specs.Ending.{flat_end_of, flat_end}
-use Rattle.flat_machine.specs.Laws.{at_memory}
+use Rattle.flat_machine.proofs.InOrder.{phase-order}
+use Rattle.flat_machine.specs.Laws.{AreCoresRising, at_memory}
 use Rattle.run_agreement.specs.Worlds.{LeadsToRun, past_acquire, IsStopped}
 use Rattle.run_agreement.specs.Cores.{world_of, ChangesOne, step_of_task, IsFreeAmong, IsStoppedAmong, IsAgreed}
 use Rattle.run_agreement.proofs.Places.{set-there, set-other, set-length, same-places, map-place, place-map}
@@ -28,11 +29,6 @@ use Rattle.run_agreement.proofs.Agreeing.{run-ends}
 use Rattle.run_agreement.proofs.Beginning.{run-begin, run-opens}
 
 -- ---- one task changes
-
-phase-rising : (P : ProgramParts) (phase : ℕ) (p : Phase) → IsProgram P → slice_get P.phases phase ≡ Some p → AllPairs (λ (a b : TaskDecl). a.core.0 < b.core.0) p.tasks
-phase-rising P phase p is there =
-    let found : get_or P.phases phase p ≡ p = get_or_from_slice_get P.phases phase p p there in
-    (subst (IsPhase (length P.memory) (length P.locks)) found (is.each_phase phase p (slice_get_within P.phases phase p there))).rising
 
 change-place : (ds : List TaskDecl) (i : ℕ) (d : TaskDecl) (x : Started) (old new : TaskDecl → Started) → AllPairs (λ (a b : TaskDecl). a.core.0 < b.core.0) ds → slice_get ds i ≡ Some d
     → ChangesOne d x old new → map new ds ≡ slice_set (map old ds) i x
@@ -53,11 +49,11 @@ among-at : (ds : List TaskDecl) (d : TaskDecl) → (among : IsAmong ds d) → sl
 among-at ds d among = slice_get-get_or ds among.0 d among.1.0 ∙ ap Some (sym among.1.1)
 
 -- the world after the change
-changed-world : (P : ProgramParts) (phase : ℕ) (past : List Started) (p : Phase) (d : TaskDecl) (s : At) (old new : TaskDecl → Started) (m : List ℕ) → IsProgram P → slice_get P.phases phase ≡ Some p
+changed-world : (P : ProgramParts) (phase : ℕ) (past : List Started) (p : Phase) (d : TaskDecl) (s : At) (old new : TaskDecl → Started) (m : List ℕ) → AreCoresRising P → slice_get P.phases phase ≡ Some p
     → (among : IsAmong p.tasks d) → ChangesOne d s.task old new → with_task (world_of phase past p old m) among.0 s ≡ world_of phase past p new s.memory
 changed-world P phase past p d s old new m is there among h =
     let with_tasks : List Started → Flat = λ ts. record { begun = phase + 1; past = past; tasks = ts; memory = s.memory } in
-    ap with_tasks (sym (change-place p.tasks among.0 d s.task old new (phase-rising P phase p is there) (among-at p.tasks d among) h))
+    ap with_tasks (sym (change-place p.tasks among.0 d s.task old new (phase-order P phase p is there) (among-at p.tasks d among) h))
 
 same-tasks : (ds : List TaskDecl) (old new : TaskDecl → Started) → ((d : TaskDecl) → IsAmong ds d → new d ≡ old d) → map old ds ≡ map new ds
 same-tasks [] old new same = refl
@@ -75,7 +71,7 @@ agreed-same P fuel gs phase past p old new m same h =
 
 -- a task does what it needs
 pub agreed-step : (P : ProgramParts) (fuel : ℕ) (gs : List Grant) (phase : ℕ) (past : List Started) (p : Phase) (d : TaskDecl) (need : Need) (old new : TaskDecl → Started) (m : List ℕ)
-    → IsProgram P → IsChecked P → IsAmong p.tasks d → wish P fuel (old d) ≡ Some need → ChangesOne d (step_of_task P old d m need).task old new
+    → AreCoresRising P → IsChecked P → IsAmong p.tasks d → wish P fuel (old d) ≡ Some need → ChangesOne d (step_of_task P old d m need).task old new
     → IsAgreed P fuel gs phase past p old m → IsAgreed P fuel gs phase past p new (step_of_task P old d m need).memory
 agreed-step P fuel gs phase past p d need old new m is checked among wants change h =
     let W : Flat = world_of phase past p old m in
@@ -104,7 +100,7 @@ free-among p task lock free =
 
 -- a task acquires the free lock that it wants
 pub agreed-grant : (P : ProgramParts) (fuel : ℕ) (gs : List Grant) (phase : ℕ) (past : List Started) (p : Phase) (d : TaskDecl) (lock : LockId) (old new : TaskDecl → Started) (m : List ℕ)
-    → IsProgram P → IsChecked P → IsAmong p.tasks d → wish P fuel (old d) ≡ Some (Acquire lock) → IsFreeAmong p old lock.0 → ChangesOne d (past_acquire P (old d)) old new
+    → AreCoresRising P → IsChecked P → IsAmong p.tasks d → wish P fuel (old d) ≡ Some (Acquire lock) → IsFreeAmong p old lock.0 → ChangesOne d (past_acquire P (old d)) old new
     → IsAgreed P fuel gs phase past p old m → IsAgreed P fuel (gs ++ grant_of (old d) lock ∷ []) phase past p new m
 agreed-grant P fuel gs phase past p d lock old new m is checked among wants free change h =
     let W : Flat = world_of phase past p old m in
@@ -129,7 +125,7 @@ all-finished (d ∷ ds) task done =
     both false b x y = absurd (true≢false (sym x))
 
 -- the phase after this one begins
-pub agreed-begin : (P : ProgramParts) (fuel : ℕ) (gs : List Grant) (phase : ℕ) (past : List Started) (p q : Phase) (task : TaskDecl → Started) (m : List ℕ) → IsProgram P → IsChecked P
+pub agreed-begin : (P : ProgramParts) (fuel : ℕ) (gs : List Grant) (phase : ℕ) (past : List Started) (p q : Phase) (task : TaskDecl → Started) (m : List ℕ) → AreCoresRising P → IsChecked P
     → ((d : TaskDecl) → IsAmong p.tasks d → has_finished (task d) ≡ true) → slice_get P.phases (phase + 1) ≡ Some q
     → IsAgreed P fuel gs phase past p task m → IsAgreed P fuel gs (phase + 1) (past ++ map task p.tasks) q (fresh (phase + 1)) m
 agreed-begin P fuel gs phase past p q task m is checked done there h =
@@ -139,7 +135,7 @@ agreed-begin P fuel gs phase past p q task m is checked done there h =
     record { there = there; leads = run-begin P fuel gs W q is checked next h.leads }
 
 -- the first phase
-pub agreed-opens : (P : ProgramParts) (fuel : ℕ) (p : Phase) → IsProgram P → IsChecked P → slice_get P.phases 0 ≡ Some p → IsAgreed P fuel [] 0 [] p (fresh 0) P.memory
+pub agreed-opens : (P : ProgramParts) (fuel : ℕ) (p : Phase) → AreCoresRising P → IsChecked P → slice_get P.phases 0 ≡ Some p → IsAgreed P fuel [] 0 [] p (fresh 0) P.memory
 agreed-opens P fuel p is checked there = record { there = there; leads = run-begin P fuel [] (initial P) p is checked there (run-opens P fuel) }
 
 -- ---- no phase begins

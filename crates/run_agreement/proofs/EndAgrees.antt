@@ -19,7 +19,8 @@ use Rattle.message_net.specs.declared.event.Event.{Event}
 use Rattle.phase_barrier.specs.Barrier.{Barrier, all_arrived}
 use Rattle.registration_protocol.specs.Node.{NodeParts, Setting}
 use Rattle.machine_rules.specs.State.{State, initial_state}
-use Rattle.machine_rules.specs.Sound.{IsSound, IsReady}
+use Rattle.machine_rules.specs.Sound.{IsSound, IsReady, IsWellFormed}
+use Rattle.machine_rules.proofs.AnySize.{well-formed}
 use Rattle.machine_rules.specs.Next.{next}
 use Rattle.machine_rules.specs.Memory.{store_in, memory_of}
 use Rattle.machine_rules.specs.Rest.{HasOpenTask, IsAtRest}
@@ -34,7 +35,7 @@ use Rattle.machine_rules.proofs.OpenedSound.{opened-sound}
 use Rattle.machine_rules.proofs.OpenedInvariant.{opened-invariant}
 use Rattle.machine_rules.proofs.RestStates.{rest}
 use Rattle.machine_rules.proofs.RunsKept.{memory_over, memory-length, run-setting}
-use Rattle.machine_rules.proofs.RunsCoherent.{first_memory, run-all, run-memory, run-shows}
+use Rattle.machine_rules.proofs.RunsCoherent.{first_memory, well-all, run-memory, well-shows}
 use Rattle.run_agreement.specs.Agreed.{States, Loads, Ends, stands, tasks_from, Agreed, more_ends}
 use Rattle.run_agreement.specs.Ends.{HasFlatEnd}
 use Rattle.machine_rules.proofs.NoPhases.{no-phases-run}
@@ -58,15 +59,15 @@ some-cores : (ts : List TaskDecl) → 1 ≤ cores_in ts
 some-cores [] = omega arith
 some-cores (d ∷ ds) = let rest = some-cores ds in omega (arith, rest)
 
-opened-halting : (C : Setting) → IsReady C → IsHalting (initial_state C)
-opened-halting C ready =
+opened-halting : (C : Setting) → IsWellFormed C → IsHalting (initial_state C)
+opened-halting C well =
     record {
       level = λ c n found halted. ap (λ (x : NodeParts). x.phase) (opened-node C c n found).is ∙ sym (ap (λ (k : Barrier). k.phase) (opened-keeper C));
       over = λ all. absurd (never (sym (ap all_arrived (opened-keeper C)) ∙ all));
     }
   where
     none : all_arrived (record { phases = length C.program.phases; phase = 0; arrived = replicate C.shape.cores false; bad = false }) ≡ false
-    none = not-all C.shape.cores (omega (arith, ready.context.cores, some-cores (tasks_of C.program.phases)))
+    none = not-all C.shape.cores (omega (arith, well.context.cores, some-cores (tasks_of C.program.phases)))
 
     never : all_arrived (record { phases = length C.program.phases; phase = 0; arrived = replicate C.shape.cores false; bad = false }) ≡ true → ⊥
     never all = let off = none in absurd (cc)
@@ -113,8 +114,8 @@ whole-or-open S M p inv over there some = by_rest (rest S M inv over) where
   by_rest (inl all) = let n = get-cases S.nodes 0 some in by_ended (inv.ended 0 n.0 n.1 (all 0 n.0 n.1))
   by_rest (inr stuck) = inr stuck.some
 
-phases-end : (C : Setting) (p : Phase) (events : List Event) → IsReady C → slice_get C.program.phases 0 ≡ Some p → IsCompleteRun (initial_state C) events → HasFlatEnd C events
-phases-end C p events ready first complete =
+phases-end : (C : Setting) (p : Phase) (events : List Event) → IsWellFormed C → slice_get C.program.phases 0 ≡ Some p → IsCompleteRun (initial_state C) events → HasFlatEnd C events
+phases-end C p events well first complete =
     record {
       end' = flat_end_of S.setting.program S.setting.fuel W;
       run = subst (λ (x : Setting). flat_end x.program x.fuel (grants_of (initial_state C) events) ≡ Some (flat_end_of S.setting.program S.setting.fuel W)) setting ends;
@@ -135,10 +136,10 @@ phases-end C p events ready first complete =
     E = ends_over (more_ends no_ends (initial_state C)) (initial_state C) events
 
     h : Agreed S M (grants_of (initial_state C) events) L E
-    h = run-agreed C p events ready first complete.run
+    h = run-agreed C p events well first complete.run
 
     inv : Invariant S M
-    inv = (run-all C events ready complete.run).1
+    inv = (well-all C events well complete.run).1
 
     setting : S.setting ≡ C
     setting = run-setting (initial_state C) events ∙ opened-setting C
@@ -147,8 +148,8 @@ phases-end C p events ready first complete =
     resting =
         record {
           inv = inv;
-          halting = run-halting (initial_state C) (first_memory C) 0 events (opened-sound C ready.context ready.program ready.checked) (opened-invariant C ready.context ready.program ready.checked)
-              (opened-halting C ready) complete.run;
+          halting = run-halting (initial_state C) (first_memory C) 0 events (opened-sound C well) (opened-invariant C well)
+              (opened-halting C well) complete.run;
           over = complete.over;
           shown = h.shown;
           there = h.world.there;
@@ -194,20 +195,20 @@ phases-end C p events ready first complete =
         ∙ ap (λ (k : ℕ). ends_from 0 (take k S.setting.program.phases) (initial_state C) events) number
 
     memory : h.memory ≡ memory_of S
-    memory = ext_get_or 0 h.memory (memory_after C.program.memory (initial_state C) events) long (λ i within. h.same i ∙ sym (run-memory C events i)) ∙ sym (run-shows C events ready complete.run)
+    memory = ext_get_or 0 h.memory (memory_after C.program.memory (initial_state C) events) long (λ i within. h.same i ∙ sym (run-memory C events i)) ∙ sym (well-shows C events well complete.run)
       where
         long : length h.memory ≡ length (memory_after C.program.memory (initial_state C) events)
         long = h.world.leads.world.words ∙ ap (λ (x : Setting). length x.program.memory) setting ∙ sym (memory-length (initial_state C) C.program.memory events)
 
 -- without phases nothing comes
-none-end : (C : Setting) (events : List Event) → IsReady C → C.program.phases ≡ [] → IsCompleteRun (initial_state C) events → HasFlatEnd C events
-none-end C events ready none complete =
+none-end : (C : Setting) (events : List Event) → IsWellFormed C → C.program.phases ≡ [] → IsCompleteRun (initial_state C) events → HasFlatEnd C events
+none-end C events well none complete =
     record {
       end' = flat_end_of C.program C.fuel (initial C.program);
       run = ap (λ (es : List Event). flat_end C.program C.fuel (grants_of (initial_state C) es)) empty ∙ none-ends C.program C.fuel (ap length none);
       loads = end-loads C.program C.fuel (initial C.program) ∙ sym (no-begun (initial_state C) none-too);
       ending = end-ending C.program C.fuel (initial C.program) ∙ same-ending [] (ends_of (initial_state C) events) C.program.memory (memory_of (after (initial_state C) events)) (sym (no-ends (initial_state C) none-too))
-          (sym (run-shows C events ready complete.run ∙ ap (λ (es : List Event). memory_after C.program.memory (initial_state C) es) empty));
+          (sym (well-shows C events well complete.run ∙ ap (λ (es : List Event). memory_after C.program.memory (initial_state C) es) empty));
     }
   where
     empty : events ≡ []
@@ -230,8 +231,12 @@ none-end C events ready none complete =
         no-first zero = refl
         no-first (suc k) = refl
 
-pub end-agrees : (C : Setting) (events : List Event) → IsReady C → IsCompleteRun (initial_state C) events → HasFlatEnd C events
-end-agrees C events ready complete = by_phases C.program.phases refl where
+pub well-ends : (C : Setting) (events : List Event) → IsWellFormed C → IsCompleteRun (initial_state C) events → HasFlatEnd C events
+well-ends C events well complete = by_phases C.program.phases refl where
   by_phases : (ps : List Phase) → C.program.phases ≡ ps → HasFlatEnd C events
-  by_phases [] is = none-end C events ready is complete
-  by_phases (p ∷ ps) is = phases-end C p events ready (ap (λ (xs : List Phase). slice_get xs 0) is) complete
+  by_phases [] is = none-end C events well is complete
+  by_phases (p ∷ ps) is = phases-end C p events well (ap (λ (xs : List Phase). slice_get xs 0) is) complete
+
+-- the same within the limits of the code
+pub end-agrees : (C : Setting) (events : List Event) → IsReady C → IsCompleteRun (initial_state C) events → HasFlatEnd C events
+end-agrees C events ready complete = well-ends C events (well-formed C ready) complete

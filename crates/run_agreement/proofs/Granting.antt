@@ -6,15 +6,15 @@ use Rattle.std.proofs.lemmas.List.Folds.{list_any_none}
 use Rattle.std.proofs.lemmas.Option.{same_Some, slice_get-get_or}
 use Rattle.dn_base.specs.declared.ids.Grant.{Grant}
 use Rattle.dn_base.specs.declared.ids.LockId.{LockId}
-use Rattle.region_table.specs.Program.{ProgramParts, IsProgram}
+use Rattle.region_table.specs.Program.{ProgramParts}
 use Rattle.rv_core.specs.declared.need.Need.TheVariants.{Acquire}
 use Rattle.rv_core.specs.Access.{is_held}
 use Rattle.effect_checker.specs.Checked.{IsChecked}
 use Rattle.flat_machine.specs.Step.{Started, wish}
 use Rattle.flat_machine.specs.Phases.{Flat, settled}
 use Rattle.flat_machine.specs.Grants.{is_free, grant_of, go_on, with_task, granted, granted_if, so_far}
-use Rattle.flat_machine.specs.Laws.{at_memory, EndsSegment}
-use Rattle.flat_machine.proofs.ReachedLaws.{reached-rising, grant-legal}
+use Rattle.flat_machine.specs.Laws.{AreCoresRising, at_memory, EndsSegment}
+use Rattle.flat_machine.proofs.ReachedLaws.{reached-order, grant-legal}
 use Rattle.flat_machine.proofs.Rest.{wish-open}
 use Rattle.flat_machine.proofs.RunLemmas.{grants-push}
 use Rattle.flat_machine.proofs.SegmentLaws.{segment-still, segment-after}
@@ -27,7 +27,7 @@ use Rattle.run_agreement.proofs.Holding.{world-separate, world-step, world-grant
 
 -- ---- a step
 
-pub run-step : (P : ProgramParts) (fuel : ℕ) (gs : List Grant) (W : Flat) (i : ℕ) (r : Started) → IsProgram P → IsChecked P → slice_get W.tasks i ≡ Some r → LeadsToRun P fuel gs W
+pub run-step : (P : ProgramParts) (fuel : ℕ) (gs : List Grant) (W : Flat) (i : ℕ) (r : Started) → AreCoresRising P → IsChecked P → slice_get W.tasks i ≡ Some r → LeadsToRun P fuel gs W
     → LeadsToRun P fuel gs (stepped P fuel W i r)
 run-step P fuel gs W i r is checked there h =
     record {
@@ -58,7 +58,7 @@ free-later P fuel W F lock h free =
 acquire-rest : (P : ProgramParts) (fuel : ℕ) (r : Started) (lock : LockId) → wish P fuel r ≡ Some (Acquire lock) → EndsSegment (wish P fuel r)
 acquire-rest P fuel r lock wants = subst EndsSegment (sym wants) tt
 
-pub run-grant : (P : ProgramParts) (fuel : ℕ) (gs : List Grant) (W : Flat) (i : ℕ) (r : Started) (lock : LockId) → IsProgram P → IsChecked P → slice_get W.tasks i ≡ Some r
+pub run-grant : (P : ProgramParts) (fuel : ℕ) (gs : List Grant) (W : Flat) (i : ℕ) (r : Started) (lock : LockId) → AreCoresRising P → IsChecked P → slice_get W.tasks i ≡ Some r
     → wish P fuel r ≡ Some (Acquire lock) → is_free W.tasks lock.0 ≡ true → LeadsToRun P fuel gs W → LeadsToRun P fuel (gs ++ grant_of r lock ∷ []) (world_after_grant P W i r)
 run-grant P fuel gs W i r lock is checked there wants free h =
     let F : Flat = h.flat in
@@ -68,7 +68,7 @@ run-grant P fuel gs W i r lock is checked there wants free h =
     let reached : so_far P fuel gs ≡ Some F = h.run ∙ ap Some stands in
     let next : Flat = with_task F i (go_on P fuel r F.memory) in
     let legal : granted P fuel (grant_of r lock) F ≡ Some (settled P fuel next) =
-    grant-legal P fuel F i r lock (reached-rising P fuel gs F is reached) there' wants (free-later P fuel W F lock.0 h.leads free) in
+    grant-legal P fuel F i r lock (reached-order P fuel gs F is reached) there' wants (free-later P fuel W F lock.0 h.leads free) in
     let after = world-grant P fuel W i r lock there wants free h.world in
     record {
       world = after;

@@ -10,7 +10,7 @@ use Rattle.std.proofs.lemmas.List.Folds.{list_any_at}
 use Rattle.std.proofs.lemmas.Option.{none-some, same_Some, slice_get_within, slice_get-get_or, get_or_from_slice_get}
 use Rattle.dn_base.specs.declared.ids.LockId.{LockId}
 use Rattle.dn_base.specs.declared.ids.PhaseId.{PhaseId}
-use Rattle.region_table.specs.Program.{ProgramParts, IsPhase, IsProgram}
+use Rattle.region_table.specs.Program.{ProgramParts}
 use Rattle.region_table.specs.declared.declared.TaskDecl.{TaskDecl}
 use Rattle.region_table.specs.declared.declared.Phase.{Phase}
 use Rattle.rv_core.specs.declared.need.Need.TheVariants.{Acquire}
@@ -22,7 +22,7 @@ use Rattle.effect_checker.specs.Checked.{IsChecked}
 use Rattle.flat_machine.specs.Step.{Started, At, wish, flat_step, IsWithin}
 use Rattle.flat_machine.specs.Phases.{Flat}
 use Rattle.flat_machine.specs.Grants.{is_free, with_task}
-use Rattle.flat_machine.specs.Laws.{at_memory, IsLater, HoldApart, HasTasks}
+use Rattle.flat_machine.specs.Laws.{AreCoresRising, at_memory, IsLater, HoldApart, HasTasks}
 use Rattle.flat_machine.proofs.CauseLemmas.{step-within}
 use Rattle.flat_machine.proofs.Rest.{wish-open}
 use Rattle.flat_machine.proofs.Rights.{wish-need, step-after}
@@ -69,7 +69,7 @@ record IsPhaseOf (P : ProgramParts) (W : Flat) : Type 0 where
   decls : map (λ (r : Started). r.decl) W.tasks ≡ phase.tasks
   rising : AllPairs (λ (x y : TaskDecl). x.core.0 < y.core.0) phase.tasks
 
-phase-of : (P : ProgramParts) (W : Flat) (i : ℕ) (r : Started) → IsProgram P → HasTasks P W → slice_get W.tasks i ≡ Some r → IsPhaseOf P W
+phase-of : (P : ProgramParts) (W : Flat) (i : ℕ) (r : Started) → AreCoresRising P → HasTasks P W → slice_get W.tasks i ≡ Some r → IsPhaseOf P W
 phase-of P W i r is h there = by_begun W.begun refl
   where
     by_begun : (n : ℕ) → W.begun ≡ n → IsPhaseOf P W
@@ -81,16 +81,15 @@ phase-of P W i r is h there = by_begun W.begun refl
         let p : Phase = get_or P.phases k default in
         let one : W.begun ≡ k + 1 = omega arith in
         let at' : slice_get P.phases k ≡ Some p = slice_get-get_or P.phases k default within in
-        let well : IsPhase (length P.memory) (length P.locks) p = is.each_phase k default within in
         record {
           phase = p;
           known = (k, (within, sym (get_or_from_slice_get P.phases k p p at')));
           decls = h.last k p one at';
-          rising = well.rising;
+          rising = is k default within;
         }
 
 -- tasks that are some phase's, and hold no lock in common
-pub world-separate : (P : ProgramParts) (fuel : ℕ) (W : Flat) → IsProgram P → IsChecked P → IsWorld P fuel W → AreSeparate W.tasks
+pub world-separate : (P : ProgramParts) (fuel : ℕ) (W : Flat) → AreCoresRising P → IsChecked P → IsWorld P fuel W → AreSeparate W.tasks
 world-separate P fuel W is checked h i j a b apart first second =
     let p = phase-of P W i a is h.tasks first in
     let at_a : slice_get p.phase.tasks i ≡ Some a.decl = ap (λ (l : List TaskDecl). slice_get l i) (sym p.decls) ∙ decl-place W.tasks i a first in

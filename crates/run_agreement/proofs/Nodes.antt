@@ -9,7 +9,7 @@ use Rattle.region_table.specs.Program.{tasks_of, cores_in}
 use Rattle.region_table.specs.declared.declared.TaskDecl.{TaskDecl}
 use Rattle.region_table.specs.declared.declared.Phase.{Phase}
 use Rattle.region_table.specs.Tasks.{declared}
-use Rattle.region_table.proofs.TaskLemmas.{declared-only}
+use Rattle.flat_machine.proofs.InOrder.{declared-only}
 use Rattle.rv_core.specs.declared.task.TaskState.{TaskState}
 use Rattle.rv_core.specs.Task.{started}
 use Rattle.run_agreement.proofs.Places.{get-cases}
@@ -70,7 +70,7 @@ pub stands-or : (S : State) (M : ℕ → ℕ) (K : States) (L : Loads) (p : Phas
     → slice_get S.nodes d.core.0 ≡ Some n → HasIt S K d n ⊎ ((n.phase < S.keeper.phase) × (K S.keeper.phase d.core.0 ≡ started d))
 stands-or S M K L p d n inv shown there among found = by_phase (n.phase == S.keeper.phase) refl where
   declares : declared S.setting.program S.keeper.phase d.core.0 ≡ Some d
-  declares = declared-only S.setting.program S.keeper.phase p d inv.machine.program there among
+  declares = declared-only S.setting.program S.keeper.phase p d inv.machine.program.order there among
 
   by_phase : (x : Bool) → (n.phase == S.keeper.phase) ≡ x → HasIt S K d n ⊎ ((n.phase < S.keeper.phase) × (K S.keeper.phase d.core.0 ≡ started d))
   by_phase true e =

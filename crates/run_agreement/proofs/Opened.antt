@@ -7,7 +7,7 @@ use Rattle.region_table.specs.Program.{ProgramParts}
 use Rattle.region_table.specs.declared.declared.TaskDecl.{TaskDecl}
 use Rattle.region_table.specs.declared.declared.Phase.{Phase}
 use Rattle.region_table.specs.Tasks.{declared}
-use Rattle.region_table.proofs.TaskLemmas.{declared-only}
+use Rattle.flat_machine.proofs.InOrder.{declared-only}
 use Rattle.rv_core.specs.declared.task.TaskState.{TaskState}
 use Rattle.rv_core.specs.Task.{started}
 use Rattle.flat_machine.specs.Step.{fresh}
@@ -16,7 +16,7 @@ use Rattle.phase_barrier.specs.Barrier.{Barrier}
 use Rattle.registration_protocol.specs.Node.{NodeParts, Setting}
 use Rattle.machine_rules.specs.State.{initial_state}
 use Rattle.machine_rules.proofs.OpenedFacts.{opened-setting, opened-keeper, IsNewNode, opened-node}
-use Rattle.machine_rules.specs.Sound.{IsReady}
+use Rattle.machine_rules.specs.Sound.{IsWellFormed}
 use Rattle.machine_rules.proofs.RunsCoherent.{first_memory}
 use Rattle.run_agreement.specs.Agreed.{States, Loads, Ends, stands, IsWorldAt, AreShown, Agreed}
 use Rattle.run_agreement.proofs.Acting.{world-same}
@@ -50,8 +50,8 @@ first-shown C =
         let first : option_map started (declared C.program 0 c) ≡ Some t = sym (ap (λ (x : NodeParts). x.task) new.is) ∙ task in
         ap (λ (k : ℕ). first_states C.program k c) phase ∙ new-state (declared C.program 0 c) t first
 
-pub opened-agreed : {E : Ends} (C : Setting) (p : Phase) → IsReady C → slice_get C.program.phases 0 ≡ Some p → Agreed (initial_state C) (first_memory C) [] no_loads E
-opened-agreed {E} C p ready there =
+pub opened-agreed : {E : Ends} (C : Setting) (p : Phase) → IsWellFormed C → slice_get C.program.phases 0 ≡ Some p → Agreed (initial_state C) (first_memory C) [] no_loads E
+opened-agreed {E} C p well there =
     record {
       states = first_states C.program;
       shown = first-shown C;
@@ -65,8 +65,8 @@ opened-agreed {E} C p ready there =
   where
     first : (d : TaskDecl) → IsAmong p.tasks d → stands (first_states C.program) no_loads 0 d ≡ fresh 0 d
     first d among =
-        let is : first_states C.program 0 d.core.0 ≡ started d = ap started_or (declared-only C.program 0 p d ready.program there among) in
+        let is : first_states C.program 0 d.core.0 ≡ started d = ap started_or (declared-only C.program 0 p d well.program.order there among) in
         rw (is) refl
 
     now : IsWorldAt C [] (first_states C.program) no_loads 0 p C.program.memory
-    now = world-same C.program C.fuel [] 0 [] [] p (fresh 0) (stands (first_states C.program) no_loads 0) C.program.memory refl first (agreed-opens C.program C.fuel p ready.program ready.checked there)
+    now = world-same C.program C.fuel [] 0 [] [] p (fresh 0) (stands (first_states C.program) no_loads 0) C.program.memory refl first (agreed-opens C.program C.fuel p well.program.order well.checked there)

@@ -8,7 +8,7 @@ use Rattle.dn_base.specs.declared.ids.Grant.{Grant}
 use Rattle.region_table.specs.Program.{ProgramParts}
 use Rattle.region_table.specs.declared.declared.TaskDecl.{TaskDecl}
 use Rattle.region_table.specs.declared.declared.Phase.{Phase}
-use Rattle.region_table.proofs.TaskLemmas.{declared-only}
+use Rattle.flat_machine.proofs.InOrder.{declared-only}
 use Rattle.rv_core.specs.declared.task.TaskState.{TaskState}
 use Rattle.rv_core.specs.declared.task.End.{End}
 use Rattle.rv_core.specs.declared.task.End.TheVariants.{Finished, Fuel, Trap}
@@ -116,7 +116,7 @@ next-fresh : (S : State) (M : ℕ → ℕ) (K : States) (L : Loads) (phase : ℕ
 next-fresh S M K L phase q d inv shown there later among =
     let node = node-there S M phase q d inv there among in
     let before : node.0.phase < phase = omega (arith, later, inv.behind d.core.0 node.0 node.1) in
-    let declares = declared-only S.setting.program phase q d inv.machine.program there among in
+    let declares = declared-only S.setting.program phase q d inv.machine.program.order there among in
     rw (shown.ahead d.core.0 phase node.0 d node.1 before declares, shown.unread d.core.0 phase node.0 node.1 before) refl
 
 pub begins-agreed : {E : Ends} (S T : State) (M : ℕ → ℕ) (gs : List Grant) (L : Loads) (core : CoreId) (bad : Bool) → Invariant S M → Agreed S M gs L E
@@ -173,4 +173,4 @@ begins-agreed {E} S T M gs L core bad inv h step new whole on =
     now =
         world-same P S.setting.fuel gs (k + 1) (tasks_from K L 0 (take k P.phases) ++ map (stands K L k) h.phase.tasks) (tasks_from K L 0 (take (k + 1) P.phases)) q (fresh (k + 1)) (stands K L (k + 1)) h.memory first
         (λ d among. next-fresh S M K L (k + 1) q d inv h.shown next_one.1 (omega arith) among)
-        (agreed-begin P S.setting.fuel gs k (tasks_from K L 0 (take k P.phases)) h.phase q (stands K L k) h.memory inv.machine.program inv.machine.checked finished next_one.1 h.world)
+        (agreed-begin P S.setting.fuel gs k (tasks_from K L 0 (take k P.phases)) h.phase q (stands K L k) h.memory inv.machine.program.order inv.machine.checked finished next_one.1 h.world)

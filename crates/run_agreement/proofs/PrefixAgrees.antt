@@ -20,7 +20,8 @@ use Rattle.machine_rules.proofs.OpenedFacts.{opened-setting}
 use Rattle.machine_rules.proofs.OpenedSound.{opened-sound}
 use Rattle.machine_rules.proofs.OpenedInvariant.{opened-invariant}
 use Rattle.machine_rules.proofs.RunsKept.{memory_over, run-setting}
-use Rattle.machine_rules.specs.Sound.{IsReady}
+use Rattle.machine_rules.specs.Sound.{IsReady, IsWellFormed}
+use Rattle.machine_rules.proofs.AnySize.{well-formed}
 use Rattle.machine_rules.proofs.RunsCoherent.{first_memory}
 use Rattle.run_agreement.specs.Agreed.{States, Loads, stands, tasks_from, IsWorldAt, Agreed, more_ends}
 use Rattle.run_agreement.specs.Fronts.{HasStartedWith, IsFrontOf}
@@ -90,17 +91,17 @@ world-begins C gs K L k p m F h run q x d before there among =
     }
 
 -- the state after a run agrees
-pub run-agreed : (C : Setting) (p : Phase) (events : List Event) → IsReady C → slice_get C.program.phases 0 ≡ Some p → IsRun (initial_state C) events
+pub run-agreed : (C : Setting) (p : Phase) (events : List Event) → IsWellFormed C → slice_get C.program.phases 0 ≡ Some p → IsRun (initial_state C) events
     → Agreed (after (initial_state C) events) (memory_over (first_memory C) (initial_state C) events) (grants_of (initial_state C) events) (loads_over no_loads (initial_state C) events)
     (ends_over (more_ends no_ends (initial_state C)) (initial_state C) events)
-run-agreed C p events ready there run =
-    agreed-run (initial_state C) (first_memory C) 0 [] no_loads (more_ends no_ends (initial_state C)) events (opened-sound C ready.context ready.program ready.checked) (opened-invariant C ready.context ready.program ready.checked)
-    (last-more (initial_state C) no_ends) (opened-agreed C p ready there) run
+run-agreed C p events well there run =
+    agreed-run (initial_state C) (first_memory C) 0 [] no_loads (more_ends no_ends (initial_state C)) events (opened-sound C well) (opened-invariant C well)
+    (last-more (initial_state C) no_ends) (opened-agreed C p well there) run
 
-pub run-world : (C : Setting) (p : Phase) (events : List Event) → IsReady C → slice_get C.program.phases 0 ≡ Some p → IsRun (initial_state C) events
+pub run-world : (C : Setting) (p : Phase) (events : List Event) → IsWellFormed C → slice_get C.program.phases 0 ≡ Some p → IsRun (initial_state C) events
     → (K : States) × (q : Phase) × (m : List ℕ) × IsWorldAt C (grants_of (initial_state C) events) K (loads_over no_loads (initial_state C) events) (after (initial_state C) events).keeper.phase q m
-run-world C p events ready there run =
-    let h = run-agreed C p events ready there run in (
+run-world C p events well there run =
+    let h = run-agreed C p events well there run in (
       h.states,
       h.phase,
       h.memory,
@@ -108,8 +109,8 @@ run-world C p events ready there run =
           (run-setting (initial_state C) events ∙ opened-setting C) h.world,
     )
 
-pub prefix-agrees : (C : Setting) (events : List Event) → IsReady C → IsRun (initial_state C) events → (F : Flat) × IsFrontOf C events F
-prefix-agrees C events ready run = by_phases C.program.phases refl where
+pub well-agrees : (C : Setting) (events : List Event) → IsWellFormed C → IsRun (initial_state C) events → (F : Flat) × IsFrontOf C events F
+well-agrees C events well run = by_phases C.program.phases refl where
   by_phases : (ps : List Phase) → C.program.phases ≡ ps → (F : Flat) × IsFrontOf C events F
   by_phases [] is =
       let none : events ≡ [] = no-phases-run C events (ap length is) run in (
@@ -121,7 +122,7 @@ prefix-agrees C events ready run = by_phases C.program.phases refl where
       )
   by_phases (p ∷ ps) is =
       let gs : List Grant = grants_of (initial_state C) events in
-      let w = run-world C p events ready (ap (λ (xs : List Phase). slice_get xs 0) is) run in
+      let w = run-world C p events well (ap (λ (xs : List Phase). slice_get xs 0) is) run in
       let F : Flat = settled C.program C.fuel w.3.leads.flat in (
         F,
         record {
@@ -129,3 +130,7 @@ prefix-agrees C events ready run = by_phases C.program.phases refl where
           fronts = λ q x d before there among. world-begins C gs w.0 (loads_over no_loads (initial_state C) events) (after (initial_state C) events).keeper.phase w.1 w.2 F w.3 w.3.leads.run q x d before there among;
         },
       )
+
+-- the same within the limits of the code
+pub prefix-agrees : (C : Setting) (events : List Event) → IsReady C → IsRun (initial_state C) events → (F : Flat) × IsFrontOf C events F
+prefix-agrees C events ready run = well-agrees C events (well-formed C ready) run

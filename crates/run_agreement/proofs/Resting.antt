@@ -8,7 +8,8 @@ use Rattle.region_table.specs.Program.{ProgramParts}
 use Rattle.region_table.specs.declared.declared.TaskDecl.{TaskDecl}
 use Rattle.region_table.specs.declared.declared.Phase.{Phase}
 use Rattle.region_table.specs.Tasks.{declared, IsDeclaration}
-use Rattle.region_table.proofs.TaskLemmas.{declared-tells, declared-only}
+use Rattle.region_table.proofs.TaskLemmas.{declared-tells}
+use Rattle.flat_machine.proofs.InOrder.{declared-only}
 use Rattle.rv_core.specs.declared.task.TaskState.{TaskState}
 use Rattle.rv_core.specs.declared.task.End.{End}
 use Rattle.rv_core.specs.declared.task.End.TheVariants.{Finished, Fuel, Trap}
@@ -127,7 +128,7 @@ task-stops S M K L p d h among = by_node (node-there S M S.keeper.phase p d h.in
       let next_is : HasNext S.setting n it.task (need.TheVariants.Acquire out.lock) = has-next S.setting n it.task (need.TheVariants.Acquire out.lock) it.has needs in
       let core : n.core ≡ d.core.0 = (h.inv.machine.node d.core.0 n found).core in
       let declares : declared P S.keeper.phase d.core.0 ≡ Some next_is.decl = subst (λ (k : ℕ). declared P k d.core.0 ≡ Some next_is.decl) it.phase (subst (λ (c : ℕ). declared P n.phase c ≡ Some next_is.decl) core next_is.declares) in
-      let decl : next_is.decl ≡ d = same_Some next_is.decl d (sym declares ∙ declared-only P S.keeper.phase p d h.inv.machine.program h.there among) in
+      let decl : next_is.decl ≡ d = same_Some next_is.decl d (sym declares ∙ declared-only P S.keeper.phase p d h.inv.machine.program.order h.there among) in
       let wants : need_of P d S.setting.fuel it.task ≡ need.TheVariants.Acquire out.lock = subst (λ (x : TaskDecl). need_of P x S.setting.fuel it.task ≡ need.TheVariants.Acquire out.lock) decl next_is.asks in
       let end_is : r.state.end ≡ None = ap (λ (t : TaskState). t.end) it.is ∙ open' in
       let wish_is : wish P S.setting.fuel r ≡ Some (need.TheVariants.Acquire out.lock) =

@@ -11,7 +11,7 @@ use Rattle.region_table.specs.Program.{ProgramParts}
 use Rattle.region_table.specs.declared.declared.TaskDecl.{TaskDecl}
 use Rattle.region_table.specs.declared.declared.Phase.{Phase}
 use Rattle.region_table.specs.Tasks.{declared}
-use Rattle.region_table.proofs.TaskLemmas.{declared-only}
+use Rattle.flat_machine.proofs.InOrder.{declared-only}
 use Rattle.rv_core.specs.declared.task.TaskState.{TaskState}
 use Rattle.rv_core.specs.declared.task.End.{End}
 use Rattle.rv_core.specs.declared.need.Need as need
@@ -80,7 +80,7 @@ task-seen S M K L E p q x d h last ended begun there among = by_node (node-there
   c = d.core.0
 
   declares : declared P q c ≡ Some d
-  declares = declared-only P q x d h.inv.machine.program there among
+  declares = declared-only P q x d h.inv.machine.program.order there among
 
   Seen : Type 0
   Seen = E q c ≡ Some (task_end P S.setting.fuel (stands K L q d))

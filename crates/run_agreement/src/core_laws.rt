@@ -4,7 +4,7 @@ ghost use Rattle.std.specs.Prelude.{◌≡◌, ◌≤◌, ◌+◌, ℕ, List, []
 ghost use Rattle.std.specs.List.{IsAmong};
 ghost use Rattle.dn_base.specs.declared.ids.Grant.{Grant};
 ghost use Rattle.dn_base.specs.declared.ids.LockId.{LockId};
-ghost use Rattle.region_table.specs.Program.{ProgramParts, IsProgram};
+ghost use Rattle.region_table.specs.Program.{ProgramParts};
 ghost use Rattle.region_table.specs.declared.declared.TaskDecl.{TaskDecl};
 ghost use Rattle.region_table.specs.declared.declared.Phase.{Phase};
 ghost use Rattle.rv_core.specs.declared.need.Need.{Need};
@@ -14,7 +14,7 @@ ghost use Rattle.flat_machine.specs.Step.{Started, fresh, wish};
 ghost use Rattle.flat_machine.specs.Phases.{Flat, has_finished, next_phase, settled, initial};
 ghost use Rattle.flat_machine.specs.Grants.{is_free, grant_of, so_far};
 ghost use Rattle.flat_machine.specs.Ending.{flat_loads_of, flat_end_of, flat_end};
-ghost use Rattle.flat_machine.specs.Laws.{AreLater};
+ghost use Rattle.flat_machine.specs.Laws.{AreCoresRising, AreLater};
 ghost use Rattle.run_agreement.specs.Worlds.{AreFronts, loads, segment_alone, LeadsTo, LeadsToRun, stepped, past_acquire, world_after_grant, with_phase, IsResting, AreStopped};
 ghost use Rattle.run_agreement.specs.Cores.{world_of, ChangesOne, step_of_task, IsFreeAmong, IsStoppedAmong, IsAgreed};
 
@@ -26,20 +26,20 @@ pub fn a_world_leads_to_the_run_at_first()
 /// One instruction of any task, in the memory of the world, keeps the run to which the world leads. So tasks of a phase may run
 /// in any order, each as far as it likes.
 pub fn a_step_keeps_the_run()
-    ensures { (P : ProgramParts) (fuel : ℕ) (gs : List Grant) (W : Flat) (i : ℕ) (r : Started) → IsProgram P → IsChecked P → slice_get W.tasks i ≡ Some r
+    ensures { (P : ProgramParts) (fuel : ℕ) (gs : List Grant) (W : Flat) (i : ℕ) (r : Started) → AreCoresRising P → IsChecked P → slice_get W.tasks i ≡ Some r
         → LeadsToRun P fuel gs W → LeadsToRun P fuel gs (stepped P fuel W i r) }
 {}
 
 /// If a task acquires the free lock that it wants, the world leads to the run by one more grant, which is legal.
 pub fn a_grant_is_the_next_of_the_run()
-    ensures { (P : ProgramParts) (fuel : ℕ) (gs : List Grant) (W : Flat) (i : ℕ) (r : Started) (lock : LockId) → IsProgram P → IsChecked P → slice_get W.tasks i ≡ Some r
+    ensures { (P : ProgramParts) (fuel : ℕ) (gs : List Grant) (W : Flat) (i : ℕ) (r : Started) (lock : LockId) → AreCoresRising P → IsChecked P → slice_get W.tasks i ≡ Some r
         → wish P fuel r ≡ Some (Acquire lock) → is_free W.tasks lock.0 ≡ true → LeadsToRun P fuel gs W
         → LeadsToRun P fuel (gs ++ grant_of r lock ∷ []) (world_after_grant P W i r) }
 {}
 
 /// If all tasks have finished and there is a next phase, the world at the beginning of that phase leads to the same run.
 pub fn the_beginning_of_a_phase_keeps_the_run()
-    ensures { (P : ProgramParts) (fuel : ℕ) (gs : List Grant) (W : Flat) (p : Phase) → IsProgram P → IsChecked P → next_phase P W ≡ Some p
+    ensures { (P : ProgramParts) (fuel : ℕ) (gs : List Grant) (W : Flat) (p : Phase) → AreCoresRising P → IsChecked P → next_phase P W ≡ Some p
         → LeadsToRun P fuel gs W → LeadsToRun P fuel gs (with_phase W p) }
 {}
 
@@ -53,7 +53,7 @@ pub fn the_loads_of_a_task_are_a_front_of_its_loads_in_the_run()
 
 /// A word that a task may load, with the locks that it holds, gets its value in the run by that task alone.
 pub fn a_word_comes_to_its_value_in_the_run_by_its_task_alone()
-    ensures { (P : ProgramParts) (fuel : ℕ) (gs : List Grant) (W : Flat) (i : ℕ) (r : Started) (w : ℕ) → IsProgram P → IsChecked P → (lead : LeadsToRun P fuel gs W)
+    ensures { (P : ProgramParts) (fuel : ℕ) (gs : List Grant) (W : Flat) (i : ℕ) (r : Started) (w : ℕ) → AreCoresRising P → IsChecked P → (lead : LeadsToRun P fuel gs W)
         → slice_get W.tasks i ≡ Some r → loads r w ≡ true → slice_index (segment_alone P fuel W.memory r).memory w ≡ slice_index lead.flat.memory w }
 {}
 
@@ -73,13 +73,13 @@ pub fn a_world_that_stops_has_the_end_of_the_run()
 
 /// The first phase begins with each of its tasks at its start, on the program's initial memory.
 pub fn the_first_phase_is_agreed()
-    ensures { (P : ProgramParts) (fuel : ℕ) (p : Phase) → IsProgram P → IsChecked P → slice_get P.phases 0 ≡ Some p → IsAgreed P fuel [] 0 [] p (fresh 0) P.memory }
+    ensures { (P : ProgramParts) (fuel : ℕ) (p : Phase) → AreCoresRising P → IsChecked P → slice_get P.phases 0 ≡ Some p → IsAgreed P fuel [] 0 [] p (fresh 0) P.memory }
 {}
 
 /// If the task of a core does what it needs, and the tasks of the other cores stay as they are, the run stays the same.
 pub fn what_a_core_does_keeps_the_run()
     ensures { (P : ProgramParts) (fuel : ℕ) (gs : List Grant) (phase : ℕ) (past : List Started) (p : Phase) (d : TaskDecl) (need : Need) (old new : TaskDecl → Started) (m : List ℕ)
-        → IsProgram P → IsChecked P → IsAmong p.tasks d → wish P fuel (old d) ≡ Some need → ChangesOne d (step_of_task P old d m need).task old new
+        → AreCoresRising P → IsChecked P → IsAmong p.tasks d → wish P fuel (old d) ≡ Some need → ChangesOne d (step_of_task P old d m need).task old new
         → IsAgreed P fuel gs phase past p old m → IsAgreed P fuel gs phase past p new (step_of_task P old d m need).memory }
 {}
 
@@ -93,13 +93,13 @@ pub fn what_changes_no_task_keeps_the_run()
 /// the run.
 pub fn what_a_core_acquires_is_the_next_grant()
     ensures { (P : ProgramParts) (fuel : ℕ) (gs : List Grant) (phase : ℕ) (past : List Started) (p : Phase) (d : TaskDecl) (lock : LockId) (old new : TaskDecl → Started) (m : List ℕ)
-        → IsProgram P → IsChecked P → IsAmong p.tasks d → wish P fuel (old d) ≡ Some (Acquire lock) → IsFreeAmong p old lock.0 → ChangesOne d (past_acquire P (old d)) old new
+        → AreCoresRising P → IsChecked P → IsAmong p.tasks d → wish P fuel (old d) ≡ Some (Acquire lock) → IsFreeAmong p old lock.0 → ChangesOne d (past_acquire P (old d)) old new
         → IsAgreed P fuel gs phase past p old m → IsAgreed P fuel (gs ++ grant_of (old d) lock ∷ []) phase past p new m }
 {}
 
 /// If each task of a phase has finished, the next phase begins with each of its tasks at its start, on the same memory.
 pub fn the_next_phase_is_agreed()
-    ensures { (P : ProgramParts) (fuel : ℕ) (gs : List Grant) (phase : ℕ) (past : List Started) (p q : Phase) (task : TaskDecl → Started) (m : List ℕ) → IsProgram P → IsChecked P
+    ensures { (P : ProgramParts) (fuel : ℕ) (gs : List Grant) (phase : ℕ) (past : List Started) (p q : Phase) (task : TaskDecl → Started) (m : List ℕ) → AreCoresRising P → IsChecked P
         → ((d : TaskDecl) → IsAmong p.tasks d → has_finished (task d) ≡ true) → slice_get P.phases (phase + 1) ≡ Some q
         → IsAgreed P fuel gs phase past p task m → IsAgreed P fuel gs (phase + 1) (past ++ map task p.tasks) q (fresh (phase + 1)) m }
 {}

@@ -30,6 +30,8 @@ fn note_core_at(
     requires { IsMachine machine.now.state }
     ensures { OnOk result (out.new.items ≡ out.old.items ++ core_changes look.now seen (slice_get machine.now.state.nodes core.0)) }
 {
+    // for the proof alone: a machine's program has few locks
+    a_machine_is_kept(machine);
     if core.0 < machine.shape().cores {
         note_core(out, look, seen, machine.node(core))
     } else {

@@ -133,6 +133,8 @@ fn add_core(
     requires core { core < machine.now.state.setting.shape.cores }
     ensures { OnOk result (out.new ≡ out.old ++ core_since core (slice_get machine.now.state.nodes core)) }
 {
+    // for the proof alone: a machine's program has few locks
+    a_machine_is_kept(machine);
     let changes = node_since(alloc, machine.node(CoreId(core)))?;
     add_changes(out, Actor::Core(CoreId(core)), changes)
 }

@@ -152,6 +152,6 @@ fewer-changes g w (b ∷ bs) = by_test (same_state b (g w)) (fewer-changes g (w 
   by_test true few = omega (arith, few)
   by_test false few = omega (arith, few)
 
-pub few-changes : (S T : State) (a : Actor) → IsMachine S → length (changes_in S T a) ≤ 65536
-few-changes S T a good =
-    omega (arith, fewer-changes (word_state T a) 0 (word_states S a), length-map-range_with_len (word_state S a) 0 (length S.setting.program.memory), good.program.memory)
+pub few-changes : (S T : State) (a : Actor) → length S.setting.program.memory ≤ 65536 → length (changes_in S T a) ≤ 65536
+few-changes S T a small =
+    omega (arith, fewer-changes (word_state T a) 0 (word_states S a), length-map-range_with_len (word_state S a) 0 (length S.setting.program.memory), small)

@@ -63,7 +63,7 @@ bit-most false = omega arith
 
 few-flying : (S : State) (made : ℕ) → IsKept S made → made ≤ 25173760 → length S.mails ≤ 25174800
 few-flying S made kept few =
-    let turns : rounds S ≤ 65 = omega (arith, kept.sound.within, kept.sound.machine.program.phases, bit-most (all_arrived S.keeper)) in
+    let turns : rounds S ≤ 65 = omega (arith, kept.sound.within, kept.left.ready.program.phases, bit-most (all_arrived S.keeper)) in
     let letters : S.setting.shape.cores * rounds S ≤ 1040 = mul-le-mul kept.most turns in
     omega (arith, kept.sound.mails, letters, few)
 

@@ -91,19 +91,19 @@ module _ (d : Drawing) (e : Event) (look : Look) (n : Made) (row : ChartRow) (ma
           rw (flying, mails) noted
 
 -- and they are few
-pub few-among : (S : State) (sent : List SentMail) (e : Event) (look : Look) → IsMachine S → IsLookBefore S sent e look
+pub few-among : (S : State) (sent : List SentMail) (e : Event) (look : Look) → IsMachine S → length S.setting.program.memory ≤ 65536 → IsLookBefore S sent e look
     → length (changes_among (word_state (next S e) look.actor) look.held) ≤ 65536
-few-among S sent e look good seen =
-    subst (λ (l : List WordChange). length l ≤ 65536) (sym (changes-are S sent e look good seen)) (few-changes S (next S e) (event_maker S e) good)
+few-among S sent e look good small seen =
+    subst (λ (l : List WordChange). length l ≤ 65536) (sym (changes-are S sent e look good seen)) (few-changes S (next S e) (event_maker S e) small)
 
 end-most : (o : Option End) → end_lines o ≤ 1
 end-most None = omega arith
 end-most (Some by) = omega arith
 
-pub few-lines : (S : State) (sent : List SentMail) (e : Event) (look : Look) (event line : ℕ) (mark : Bool) (row : ChartRow) → IsMachine S → IsLookBefore S sent e look → row ≡ row_with S e look event line mark
+pub few-lines : (S : State) (sent : List SentMail) (e : Event) (look : Look) (event line : ℕ) (mark : Bool) (row : ChartRow) → IsMachine S → length S.setting.program.memory ≤ 65536 → IsLookBefore S sent e look → row ≡ row_with S e look event line mark
     → row.lines ≤ 65538
-few-lines S sent e look event line mark row good seen is =
-    subst (λ (n : ℕ). n ≤ 65538) (sym (ap (λ (r : ChartRow). r.lines) is)) (omega (arith, end-most look.end, few-among S sent e look good seen))
+few-lines S sent e look event line mark row good small seen is =
+    subst (λ (n : ℕ). n ≤ 65538) (sym (ap (λ (r : ChartRow). r.lines) is)) (omega (arith, end-most look.end, few-among S sent e look good small seen))
 
 -- the rows of one event more of a list
 pub rows-step : (chain : List ℕ) (d f : Drawing) (es : List Event) (i : ℕ) (other : Event) (whole : Drawing) (mark : Bool) → i < length es → IsNextRow mark d f (get_or es i other)

@@ -90,7 +90,7 @@ pub way-setting : (C : Setting) (events : List Event) (T : State) (made : ℕ) (
 way-setting C events T made log way = ap (λ (x : State). x.setting) way.leads ∙ run-setting (initial_state C) events ∙ opened-setting C
 
 pub way-ready : (C : Setting) (events : List Event) (T : State) (made : ℕ) (log : Log) → IsUnderWay C events T made log → IsKept T made → IsReady C
-way-ready C events T made log way kept = subst IsReady (way-setting C events T made log way) (ready-of T made kept.sound)
+way-ready C events T made log way kept = subst IsReady (way-setting C events T made log way) (ready-of T made kept)
 
 -- ---- at the end
 

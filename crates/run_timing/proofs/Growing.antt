@@ -1,5 +1,6 @@
 -- How the rows of a run grow, event by event.
-use Rattle.std.proofs.Common.{◌≡◌, ◌⊎◌, inl, inr, ℕ, ◌+◌, ◌<◌, ◌≤◌, true, List, [], length, replicate, slice_get, Option, Some, None, sym, ap, subst, ◌∙◌, arith}
+use Rattle.std.proofs.Common.{◌≡◌, ◌⊎◌, inl, inr, ℕ, ◌+◌, ◌<◌, ◌≤◌, true, List, [], length, take, replicate, slice_get, Option, Some, None, sym, ap, subst, ◌∙◌, arith}
+use Rattle.std.proofs.lemmas.List.{take_all}
 use Rattle.dn_base.specs.declared.ids.Shape.{Shape}
 use Rattle.message_net.specs.declared.actor.Actor.{Actor}
 use Rattle.message_net.specs.declared.event.Event.{Event}
@@ -9,7 +10,7 @@ use Rattle.message_net.proofs.MailLemmas.{actor_index-within}
 use Rattle.registration_protocol.specs.Node.{Setting}
 use Rattle.machine_rules.specs.State.{State, initial_state}
 use Rattle.machine_rules.specs.Next.{next, enabled, kind_in, next_number}
-use Rattle.machine_rules.specs.Runs.{IsRun}
+use Rattle.machine_rules.specs.Runs.{after, IsRun}
 use Rattle.machine_rules.specs.Sound.{IsReady}
 use Rattle.dn_machine.specs.Actors.{actor_in}
 use Rattle.run_timing.specs.declared.rows.Rows.{Rows}
@@ -129,3 +130,8 @@ pub run-end : (ticks : Ticks) (C : Setting) (events : List Event) (n : ℕ) (fir
 run-end ticks C events n first state made last senders rows opens all timed =
     subst (λ (S : State). AreRowsOf ticks S events rows) (sym opens)
     (subst (λ (k : ℕ). AreNoted (IsOwnBefore (initial_state C) events) (IsSender (initial_state C) events) (ticks_at ticks (initial_state C) events) (kind_at (initial_state C) events) k rows) all timed.noted)
+
+pub run-led : (ticks : Ticks) (C : Setting) (events : List Event) (n : ℕ) (first state : State) (made : ℕ) (last : List (Option ℕ)) (senders : List (List ℕ)) (rows : Rows) → first ≡ initial_state C → n ≡ length events
+    → IsTimed ticks C events n state made last senders rows → state ≡ after first events
+run-led ticks C events n first state made last senders rows opens all timed =
+    timed.leads ∙ ap (after (initial_state C)) (take_all n events (omega (arith, all))) ∙ ap (λ (S : State). after S events) (sym opens)

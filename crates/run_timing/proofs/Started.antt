@@ -1,6 +1,7 @@
 -- What the machine of a program is told as a run begins, and what the rows of a run tell.
-use Rattle.std.proofs.Common.{◌≡◌, ℕ, ◌<◌, ◌≤◌, List, length, slice_get, get_or, Option, Some, None, sym, ap, subst, ◌∙◌, arith}
+use Rattle.std.proofs.Common.{◌≡◌, ℕ, ◌<◌, ◌≤◌, List, length, slice_get, get_or, Option, Some, None, Result, Ok, Err, IfOk, sym, ap, subst, ◌∙◌, arith}
 use Rattle.std.proofs.lemmas.Option.{slice_get-get_or}
+use Rattle.dn_base.specs.declared.failure.Memory.{Memory}
 use Rattle.dn_base.specs.declared.ids.Shape.{Shape}
 use Rattle.region_table.specs.Program.{ProgramParts}
 use Rattle.region_table.specs.Plan.{ArePlans}
@@ -23,7 +24,7 @@ use Rattle.run_timing.specs.Ticks.{AreWithinLimits, ticks_with}
 use Rattle.run_timing.proofs.IsLongest.{way-longest}
 
 pub ready-of : (S : State) (made : ℕ) → IsKept S made → IsReady S.setting
-ready-of S made kept = record { context = kept.sound.machine.context; program = kept.sound.machine.program; checked = kept.sound.machine.checked }
+ready-of S made kept = kept.left.ready
 
 pub setting-of : (P : ProgramParts) (machine : Shape) (most : ℕ) (m : Made) → IsInitialMachine P machine most m → IsKept m.state m.made → IsSettingOf P machine most m.state.setting
 setting-of P machine most m opens kept =
@@ -49,13 +50,20 @@ some-time ticks S events rows limits noted i within =
     let takes = ap (ticks_with ticks) told in
     omega (arith, (noted.row i below).finish, takes, (limits kind).0)
 
-pub timing-of : (P : ProgramParts) (machine : Shape) (most : ℕ) (m : Made) (events : List Event) (ticks : Ticks) (rows : Rows) (last : Option ℕ) (timing : Timing) → IsInitialMachine P machine most m
-    → IsKept m.state m.made → length events ≤ 25169664 → AreRowsOf ticks m.state events rows → IsLatest (length rows.finishes) (finish_in rows) last → IsWay rows None last timing.links.items
-    → timing.total ≡ behind (finish_in rows) last → IsTimingOf P machine most events ticks timing
-timing-of P machine most m events ticks rows last timing opens kept few noted latest way total =
+-- the way back from the latest event is the longest chain
+pub longest-of : (S : State) (events : List Event) (ticks : Ticks) (rows : Rows) (last : Option ℕ) (timing : Timing) → length events ≤ 25169664 → AreRowsOf ticks S events rows
+    → IsLatest (length rows.finishes) (finish_in rows) last → IsWay rows None last timing.links.items → timing.total ≡ behind (finish_in rows) last → IsLongest ticks S events timing
+longest-of S events ticks rows last timing few noted latest way total =
     let found : IsLatest (length events) (finish_in rows) last = subst (λ (n : ℕ). IsLatest n (finish_in rows) last) noted.finishes latest in
+    way-longest ticks S events rows last timing few noted found way total
+
+-- the timing of a program's initial machine is that of the program
+pub timing-of : (P : ProgramParts) (machine : Shape) (most : ℕ) (m : Made) (events : List Event) (ticks : Ticks) (r : Result Timing Memory) → IsInitialMachine P machine most m → IsKept m.state m.made
+    → IfOk r (IsLongest ticks m.state events) → IfOk r (IsTimingOf P machine most events ticks)
+timing-of P machine most m events ticks (Ok timing) opens kept longest =
     record {
       setting = m.state.setting;
       setting_is = setting-of P machine most m opens kept;
-      longest = subst (λ (S : State). IsLongest ticks S events timing) opens.state (way-longest ticks m.state events rows last timing few noted found way total);
+      longest = subst (λ (S : State). IsLongest ticks S events timing) opens.state longest;
     }
+timing-of P machine most m events ticks (Err e) opens kept longest = tt

@@ -19,5 +19,5 @@ mod way;
 pub use laws::a_run_has_one_timing;
 pub use text::{push_timing, time_text};
 pub use ticks::Ticks;
-pub use time::time_run;
+pub use time::{time_events, time_run};
 pub use timing::{Link, Timing};

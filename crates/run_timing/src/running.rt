@@ -1,6 +1,6 @@
 ghost use Rattle.std.specs.Prelude.{◌≡◌, ◌+◌, ◌≤◌, [], None, length, replicate, IfOk, OnOk};
 ghost use Rattle.machine_rules.specs.State.{initial_state};
-ghost use Rattle.machine_rules.specs.Runs.{IsRun};
+ghost use Rattle.machine_rules.specs.Runs.{IsRun, after};
 ghost use Rattle.run_timing.specs.Noted.{AreRowsOf};
 ghost use Rattle.run_timing.specs.Ticks.{AreWithinLimits};
 
@@ -35,7 +35,8 @@ fn note_run(
     requires rows { rows.old ≡ record { finishes = []; befores = []; kinds = [] } }
     requires last { tracks.old.last ≡ replicate (shape.cores + shape.banks + 1) None }
     requires senders { tracks.old.senders.items ≡ replicate (shape.cores + shape.banks + 1) [] }
-    ensures { OnOk result (AreRowsOf ticks.now machine.old.state events.now rows.new) }
+    ensures rows { OnOk result (AreRowsOf ticks.now machine.old.state events.now rows.new) }
+    ensures leads { OnOk result (machine.new.state ≡ after machine.old.state events.now) }
 {
     // for the proof alone: the setting of the machine is ready, so that its run has few events and mails
     a_machine_is_kept(machine);
@@ -52,11 +53,12 @@ fn note_run(
     Ok(())
 }
 
-/// The rows of a run's events, which the initial machine makes one by one.
+/// The rows of a run's events, which the initial machine makes one by one. They take 13 bytes for each event, and while they
+/// are made 4 more for each mail. A complete run has no more mails than events. The room for a whole run is allocated at once.
 ///
 /// # Errors
 /// `Memory` where there is no room for the rows or the mails.
-fn rows_by(
+pub(crate) fn timed_rows(
     alloc: Global,
     machine: &mut Machine,
     shape: Shape,
@@ -69,36 +71,12 @@ fn rows_by(
     requires run { IsRun machine.old.state events.now }
     requires few { length events.now ≤ 25169664 }
     requires ticks { AreWithinLimits ticks.now }
-    ensures { IfOk result (AreRowsOf ticks.now machine.old.state events.now) }
+    ensures rows { IfOk result (AreRowsOf ticks.now machine.old.state events.now) }
+    ensures leads { OnOk result (machine.new.state ≡ after machine.old.state events.now) }
 {
     let actors = shape.cores as usize + shape.banks as usize + 1;
     let mut tracks = Tracks::for_events(alloc, events, shape, actors)?;
     let mut rows = Rows::with_room(alloc, events.len())?;
     note_run(machine, &mut rows, &mut tracks, shape, events, ticks)?;
     Ok(rows)
-}
-
-/// The rows of a run's events, which the initial machine makes one by one. They take 13 bytes for each event, and while they
-/// are made 4 more for each mail. A complete run has no more mails than events. The room for a whole run is allocated at once.
-///
-/// The machine is borrowed once here, and then dropped: the proof of a loop that owned it would take minutes.
-///
-/// # Errors
-/// `Memory` where there is no room for the rows or the mails.
-pub(crate) fn timed_rows(
-    alloc: Global,
-    mut machine: Machine,
-    shape: Shape,
-    events: &[Event],
-    ticks: &Ticks,
-) -> Result<Rows, Memory>
-    requires initial { machine.state ≡ initial_state machine.state.setting }
-    requires made { machine.made ≡ 0 }
-    requires shape { machine.state.setting.shape ≡ shape }
-    requires run { IsRun machine.state events.now }
-    requires few { length events.now ≤ 25169664 }
-    requires ticks { AreWithinLimits ticks.now }
-    ensures { IfOk result (AreRowsOf ticks.now machine.state events.now) }
-{
-    rows_by(alloc, &mut machine, shape, events, ticks)
 }

@@ -1,5 +1,7 @@
-ghost use Rattle.std.specs.Prelude.{◌≤◌, length, IfOk};
-ghost use Rattle.run_timing.specs.Longest.{IsTimingOf};
+ghost use Rattle.std.specs.Prelude.{◌≡◌, ◌≤◌, length, IfOk, OnOk};
+ghost use Rattle.machine_rules.specs.State.{initial_state};
+ghost use Rattle.machine_rules.specs.Runs.{IsRun, after};
+ghost use Rattle.run_timing.specs.Longest.{IsLongest, IsTimingOf};
 ghost use Rattle.dn_machine.specs.Settings.{IsRunOn};
 ghost use Rattle.dn_machine.specs.Sizes.{FitsMachine};
 ghost use Rattle.run_timing.specs.Ticks.{AreWithinLimits};
@@ -13,6 +15,33 @@ use dn_machine::{Machine, a_machine_is_kept};
 use effect_checker::Checked;
 use message_net::Event;
 use std::alloc::Global;
+
+/// How long a run takes on a machine that is lent, as `time_run` says, so that the machine's program, plans and decoded code can be
+/// used again. No event may have come on the machine. Afterwards it is as the events leave it; `Machine::reset` sets it back.
+///
+/// # Errors
+/// `Memory` if there is no room for the mails, for the notes of each event, or for the links.
+pub fn time_events(
+    alloc: Global,
+    machine: &mut Machine,
+    events: &[Event],
+    ticks: &Ticks,
+) -> Result<Timing, Memory>
+    requires initial { machine.old.state ≡ initial_state machine.old.state.setting }
+    requires made { machine.old.made ≡ 0 }
+    requires run { IsRun machine.old.state events.now }
+    requires few { length events.now ≤ 25169664 }
+    requires ticks { AreWithinLimits ticks.now }
+    ensures timing { IfOk result (IsLongest ticks.now machine.old.state events.now) }
+    ensures leads { OnOk result (machine.new.state ≡ after machine.old.state events.now) }
+{
+    let shape = machine.shape();
+    let rows = timed_rows(alloc, machine, shape, events, ticks)?;
+    let last = rows.latest();
+    let total = rows.finish(last);
+    let links = way_to(alloc, rows, last, ticks)?;
+    Ok(Timing { total, links })
+}
 
 /// How long a run takes, and its longest chain of events, in which each depends on the one before it. An event depends on the
 /// previous event of its own actor, and on the event that sent the mail which it handles.
@@ -45,12 +74,8 @@ pub fn time_run(
     requires ticks { AreWithinLimits ticks.now }
     ensures { IfOk result (IsTimingOf checked shape fuel events.now ticks.now) }
 {
-    let machine = Machine::start(alloc, checked, shape, fuel)?;
+    let mut machine = Machine::start(alloc, checked, shape, fuel)?;
     // for the proof alone: no event has come, so the machine is the opened one, and the events are a run of it
     a_machine_is_kept(&machine);
-    let rows = timed_rows(alloc, machine, shape, events, ticks)?;
-    let last = rows.latest();
-    let total = rows.finish(last);
-    let links = way_to(alloc, rows, last, ticks)?;
-    Ok(Timing { total, links })
+    time_events(alloc, &mut machine, events, ticks)
 }

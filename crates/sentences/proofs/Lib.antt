@@ -1,2 +1,9 @@
+pub mod CauseLemmas
 pub mod ClaimLemmas
+pub mod NameLemmas
+pub mod OriginLemmas
+pub mod OthersLemmas
+pub mod RangeLemmas
+pub mod Spans
 pub mod TableClaims
+pub mod WordsLemmas

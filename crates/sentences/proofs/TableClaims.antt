@@ -1,7 +1,7 @@
 -- Each line that is said to claim a word for a task gives the tables such a claim.
-use Rattle.std.proofs.Common.{◌≡◌, ◌≢◌, ◌⊎◌, inl, inr, ℕ, zero, suc, ◌+◌, ◌-◌, ◌<◌, ◌≤◌, ◌==◌, ℤ, pos, negsuc, int_le, int_lt, Bool, true, false, ◌||◌, cond, nat_le, nat_lt, bytes_eq, if◌then◌else◌, List, [], ◌∷◌, ◌++◌, map, filter_map, flat_map, find, get_or, slice_get, length, Option, Some, None, Ok, option_map, IfSome, is_none, refl, sym, ap, subst, ◌∙◌, ⊎_elim, arith, append_assoc, length-append}
+use Rattle.std.proofs.Common.{◌≡◌, ◌≢◌, ◌⊎◌, inl, inr, ℕ, zero, suc, ◌+◌, ◌-◌, ◌<◌, ◌≤◌, ◌==◌, ℤ, pos, negsuc, int_le, int_lt, Bool, true, false, ◌&&◌, cond, nat_le, nat_lt, bytes_eq, if◌then◌else◌, List, [], ◌∷◌, ◌++◌, map, filter_map, flat_map, find, get_or, slice_get, length, Option, Some, None, Ok, option_map, IfSome, is_none, refl, sym, ap, subst, ◌∙◌, ⊎_elim, arith, append_assoc, length-append}
 use Rattle.std.specs.List.{IsAmong, range_with_len, cons_option}
-use Rattle.std.proofs.lemmas.Bool.{true≢false, false≢true, and_parts, or_cases, or_parts, eqb-true, eqb-false, leb-true, ltb-true, lt-ltb, le-leb, cases_order}
+use Rattle.std.proofs.lemmas.Bool.{true≢false, false≢true, and_parts, or_parts, eqb-true, eqb-false, leb-true, ltb-true, lt-ltb, le-leb, cases_order}
 use Rattle.std.proofs.lemmas.List.{append-nil, length-map, get_or_append_left, get_or-map}
 use Rattle.std.proofs.lemmas.List.Elements.{filter_map-append}
 use Rattle.std.proofs.lemmas.Option.{none-some, same_Some, slice_get_within, get_or_from_slice_get}
@@ -30,7 +30,7 @@ use Rattle.rv_assembler.specs.declared.draft.Span.{Span}
 use Rattle.rv_assembler.specs.declared.draft.Usage.{Usage}
 use Rattle.rv_assembler.specs.Number.{natural_of}
 use Rattle.rv_assembler.specs.Operand.{bytes_of}
-use Rattle.rv_assembler.specs.Named.{region_span, lock_number, task_entry, usage_of, usage_by, guarded_usage}
+use Rattle.rv_assembler.specs.Named.{region_span, lock_number, task_entry, usage_of, usage_by, plain_usage, guarded_usage}
 use Rattle.rv_assembler.specs.Rows.{start_at, use_at, uses_of}
 use Rattle.rv_assembler.specs.Placed.{Placed, placed, placed_behind}
 use Rattle.rv_assembler.specs.Counts.{data_words, regions_in, locks_in, code_words, is_phase, phases_in, family_in, current_family}
@@ -51,11 +51,13 @@ use Rattle.text_places.specs.declared.places.Located.{Located}
 use Rattle.text_places.specs.declared.places.Places.{Places}
 use Rattle.text_places.specs.Words.{is_task_of, region_has, word_place_from, word_place, IsWordPlace}
 use Rattle.text_places.proofs.PlaceLemmas.{has-program}
-use Rattle.sentences.specs.declared.claims.Contention.{Contention}
-use Rattle.sentences.specs.Claims.{extent_has, claim_has, gives_to, names_region, effect_claims, statement_claims, line_if, family_by, claims_behind, claims_of, claims_in, contended, contention_at}
+use Rattle.sentences.specs.declared.claims.Contender.{Contender}
+use Rattle.sentences.specs.declared.claims.Way.{Way}
+use Rattle.sentences.specs.declared.claims.Way.TheVariants.{Stores, Plainly, Under}
+use Rattle.sentences.specs.Claims.{extent_has, claim_has, gives_to, names_region, names_lock, uses_so, effect_claims, statement_claims, line_if, family_by, claims_behind, claims_of, claims_in, contending, contender_at}
 use Rattle.sentences.specs.Guards.{guarded_in}
-use Rattle.sentences.specs.Conflicts.{contending_task, task_on, contention_of}
-use Rattle.sentences.specs.TableClaims.{AreTasksOf, IsClaimedOn, conflict_word}
+use Rattle.sentences.specs.Conflicts.{contending_task, task_on, first_contender, second_contender}
+use Rattle.sentences.specs.TableClaims.{IsTaskOf, IsUsedSo, IsClaimedOn, conflict_word}
 use Rattle.sentences.proofs.ClaimLemmas.{claims-words}
 
 -- ---- items of lists
@@ -332,12 +334,40 @@ at-some : {X : Type 0} (Holds : X → Type 0) (o : Option X) (x : X) → o ≡ S
 at-some Holds None x e h = absurd (none-some x e)
 at-some Holds (Some y) x e h = subst Holds (same_Some y x e) h
 
+-- an effect of some way gives a use of that way
+used-so : (text : List ℕ) (names : List ℕ → Option Meaning) (locks : List (List ℕ)) (way : Way) (writes : Bool) (lock : Option Token) (u : Usage)
+    → uses_so text locks way writes lock ≡ true → usage_by text names writes lock ≡ Some u → IsUsedSo names locks way u
+used-so text names locks Stores true None u so is = sym (same_Some (plain_usage true) u is)
+used-so text names locks Stores false None u so is = absurd (false≢true so)
+used-so text names locks Stores true (Some t) u so is = absurd (false≢true so)
+used-so text names locks Stores false (Some t) u so is = absurd (false≢true so)
+used-so text names locks Plainly true None u so is = inr (sym (same_Some (plain_usage true) u is))
+used-so text names locks Plainly false None u so is = inl (sym (same_Some (plain_usage false) u is))
+used-so text names locks Plainly writes (Some t) u so is = absurd (false≢true so)
+used-so text names locks (Under number) writes None u so is = absurd (false≢true so)
+used-so text names locks (Under number) writes (Some t) u so is = by_name (slice_get locks number) refl so
+  where
+    by_use : (name : List ℕ) (k : ℕ) (w : Bool) → slice_get locks number ≡ Some name → lock_number (names name) ≡ Some k → guarded_usage w k ≡ u → IsUsedSo names locks (Under number) u
+    by_use name k true there means e = (name, k, there, means, inr (sym e))
+    by_use name k false there means e = (name, k, there, means, inl (sym e))
+
+    by_lock : (name : List ℕ) (o : Option ℕ) → slice_get locks number ≡ Some name → lock_number (names name) ≡ o → option_map (guarded_usage writes) o ≡ Some u
+        → IsUsedSo names locks (Under number) u
+    by_lock name None there means e = absurd (none-some u e)
+    by_lock name (Some k) there means e = by_use name k writes there means (same_Some (guarded_usage writes k) u e)
+
+    by_name : (o : Option (List ℕ)) → slice_get locks number ≡ o → names_lock text (Some t) o ≡ true → IsUsedSo names locks (Under number) u
+    by_name None there h = absurd (false≢true h)
+    by_name (Some name) there h =
+        let same : bytes_of text t ≡ name = (bytes_eq-Decides (bytes_of text t) name).0 h in
+        by_lock name (lock_number (names name)) there refl (ap (λ (n : List ℕ). option_map (guarded_usage writes) (lock_number (names n))) (sym same) ∙ is)
+
 -- a length of a region, as a number of the text
 small-length : (len : ℤ) (index long : ℕ) → long ≡ natural_of len → index < long → long ≤ 65536 → (int_lt (pos index) len ≡ true) × (int_le len (pos 65536) ≡ true)
 small-length (pos n) index long is within few = (lt-ltb index n (omega (arith, is, within)), le-leb n 65536 (omega (arith, is, few)))
 small-length (negsuc n) index long is within few = absurd (omega (arith, is, within))
 
-module _ (text : List ℕ) (P : ProgramParts) (is : source text ≡ Ok P) (c : Contention) (word : ℕ) (at' : IsWordPlace P.regions word c.place) (tasks : AreTasksOf text c) where
+module _ (text : List ℕ) (P : ProgramParts) (is : source text ≡ Ok P) (c : Contender) (word : ℕ) (at' : IsWordPlace P.regions word c.place) (tasks : IsTaskOf text c) where
   abbrev all : List Saying
   all = sayings (readings text)
 
@@ -473,9 +503,9 @@ module _ (text : List ℕ) (P : ProgramParts) (is : source text ≡ Ok P) (c : C
           (bytes_eq-Decides (bytes_of text e.region) at'.region.name).0 here
 
       -- the claim for one of the tasks
-      claimed-for : (t : TaskPlace) → IsAmong text_tasks t → (c.first ≡ Some t) ⊎ (c.second ≡ Some t) → t.line ≡ family → extent_has e.extent t.part c.place.index ≡ true
-          → names_region text e.region (slice_get P.regions c.place.region) ≡ true → IsClaimedOn text c word s.line
-      claimed-for t known one own gives named =
+      claimed-for : (t : TaskPlace) → IsAmong text_tasks t → c.task ≡ Some t → t.line ≡ family → extent_has e.extent t.part c.place.index ≡ true
+          → uses_so text P.locks c.way e.writes e.lock ≡ true → names_region text e.region (slice_get P.regions c.place.region) ≡ true → IsClaimedOn text P.locks c word s.line
+      claimed-for t known one own gives so named =
           let mine = current t known own in
           let p = span.0 in
           let u = usage.0 in
@@ -499,27 +529,23 @@ module _ (text : List ℕ) (P : ProgramParts) (is : source text ≡ Ok P) (c : C
             task = t;
             one = one;
             own = record { phase = mine.phase; core = sym mine.core };
+            way = used-so text names P.locks c.way e.writes e.lock u so usage.1;
           }
 
-      claimed-line : effect_claims text P.regions c family e ≡ true → IsClaimedOn text c word s.line
+      claimed-line : effect_claims text P c family e ≡ true → IsClaimedOn text P.locks c word s.line
       claimed-line h =
           let both =
           and_parts (names_region text e.region (slice_get P.regions c.place.region))
-          (gives_to family e.extent c.place.index c.first || gives_to family e.extent c.place.index c.second) h in
-          ⊎_elim
-          (λ (first : gives_to family e.extent c.place.index c.first ≡ true).
-          let t = given-by family e.extent c.place.index c.first first in
-          claimed-for t.0 (at-some (IsAmong text_tasks) c.first t.0 t.1.0 tasks.first) (inl t.1.0) t.1.1.0 t.1.1.1 both.0)
-          (λ (second : gives_to family e.extent c.place.index c.second ≡ true).
-          let t = given-by family e.extent c.place.index c.second second in
-          claimed-for t.0 (at-some (IsAmong text_tasks) c.second t.0 t.1.0 tasks.second) (inr t.1.0) t.1.1.0 t.1.1.1 both.0)
-          (or_cases (gives_to family e.extent c.place.index c.first) (gives_to family e.extent c.place.index c.second) both.1)
+          (uses_so text P.locks c.way e.writes e.lock && gives_to family e.extent c.place.index c.task) h in
+          let so = and_parts (uses_so text P.locks c.way e.writes e.lock) (gives_to family e.extent c.place.index c.task) both.1 in
+          let t = given-by family e.extent c.place.index c.task so.1 in
+          claimed-for t.0 (at-some (IsAmong text_tasks) c.task t.0 t.1.0 tasks) t.1.0 t.1.1.0 t.1.1.1 so.0 both.0
 
   statement-line : (before : List Saying) (s : Saying) (behind : List Saying) (family : ℕ) → all ≡ before ++ s ∷ behind → AreCurrent before family → IsFaultless text names before s.statement
-      → statement_claims text P.regions c family s.statement ≡ true → IsClaimedOn text c word s.line
+      → statement_claims text P c family s.statement ≡ true → IsClaimedOn text P.locks c word s.line
   statement-line before s behind family lines current well h = by_statement s.statement refl well h
     where
-      by_statement : (st : Statement) → s.statement ≡ st → IsFaultless text names before st → statement_claims text P.regions c family st ≡ true → IsClaimedOn text c word s.line
+      by_statement : (st : Statement) → s.statement ≡ st → IsFaultless text names before st → statement_claims text P c family st ≡ true → IsClaimedOn text P.locks c word s.line
       by_statement (statement.TheVariants.Uses e) is well h = claimed-line before s behind family lines current e is well h
       by_statement statement.TheVariants.Nothing is well h = absurd (false≢true h)
       by_statement (statement.TheVariants.Instruction k) is well h = absurd (false≢true h)
@@ -540,7 +566,7 @@ module _ (text : List ℕ) (P : ProgramParts) (is : source text ≡ Ok P) (c : C
   v = nat_lt 0 (version_line text (lines_of text))
 
   walk : (rs done : List Reading) (before : List Saying) (family : ℕ) → sayings done ≡ before → filter_map (fault_at v text names) (placed_behind done rs) ≡ []
-      → all ≡ before ++ sayings rs → AreCurrent before family → (line : ℕ) → IsAmong (claims_behind text P.regions c family rs) line → IsClaimedOn text c word line
+      → all ≡ before ++ sayings rs → AreCurrent before family → (line : ℕ) → IsAmong (claims_behind text P c family rs) line → IsClaimedOn text P.locks c word line
   walk [] done before family same none lines current line h = absurd (among-none line h)
   walk (Bad f ∷ rs) done before family same none lines current line h = absurd cc
   walk (Good s ∷ rs) done before family same none lines current line h =
@@ -552,21 +578,21 @@ module _ (text : List ℕ) (P : ProgramParts) (is : source text ≡ Ok P) (c : C
       let said : sayings (done ++ Good s ∷ []) ≡ now = filter_map-append good done (Good s ∷ []) ∙ ap (λ (ss : List Saying). ss ++ s ∷ []) same in
       let later : all ≡ now ++ sayings rs = lines ∙ sym (append_assoc before (s ∷ []) (sayings rs)) in
       ⊎_elim
-      (λ (this : IsAmong (line_if (statement_claims text P.regions c family s.statement) s.line) line).
-      let test = tested-line (statement_claims text P.regions c family s.statement) s.line line this in
-      subst (IsClaimedOn text c word) (sym test.1) (statement-line before s (sayings rs) family lines current well test.0))
-      (λ (behind : IsAmong (claims_behind text P.regions c (family_by family s.line s.statement) rs) line).
+      (λ (this : IsAmong (line_if (statement_claims text P c family s.statement) s.line) line).
+      let test = tested-line (statement_claims text P c family s.statement) s.line line this in
+      subst (IsClaimedOn text P.locks c word) (sym test.1) (statement-line before s (sayings rs) family lines current well test.0))
+      (λ (behind : IsAmong (claims_behind text P c (family_by family s.line s.statement) rs) line).
       walk rs (done ++ Good s ∷ []) now (family_by family s.line s.statement) said parts.1 later
       (current-behind before s (sayings rs) family lines well current) line behind)
-      (among-either (line_if (statement_claims text P.regions c family s.statement) s.line) (claims_behind text P.regions c (family_by family s.line s.statement) rs) line h)
+      (among-either (line_if (statement_claims text P c family s.statement) s.line) (claims_behind text P c (family_by family s.line s.statement) rs) line h)
 
-  of-all : (line : ℕ) → IsAmong (claims_of text P.regions c) line → IsClaimedOn text c word line
+  of-all : (line : ℕ) → IsAmong (claims_of text P c) line → IsClaimedOn text P.locks c word line
   unfolding claims_of
   of-all line h = walk (readings text) [] [] 0 refl (has-program text P is).none refl (none-current []) line h
 
-  pub claimed-on : (line : ℕ) → IsAmong (claims_in text P.regions c) line → IsClaimedOn text c word line
+  pub claimed-on : (line : ℕ) → IsAmong (claims_in text P c) line → IsClaimedOn text P.locks c word line
   claimed-on line h = by_size (nat_lt 1048576 (length text)) h where
-    by_size : (b : Bool) → IsAmong (if b then [] else claims_of text P.regions c) line → IsClaimedOn text c word line
+    by_size : (b : Bool) → IsAmong (if b then [] else claims_of text P c) line → IsClaimedOn text P.locks c word line
     by_size true h = absurd (among-none line h)
     by_size false h = of-all line h
 
@@ -633,32 +659,37 @@ module _ (text : List ℕ) (l : Located) (is : source text ≡ Ok l.program) (pl
   of-text : (o : Option TaskPlace) → IfSome o (IsAmong l.places.tasks) → IfSome o (IsAmong (text_places text).tasks)
   of-text o h = subst (λ (ps : Places). IfSome o (IsAmong ps.tasks)) places h
 
-  contending : (phase core : ℕ) → IfSome (contending_task l phase core) (IsAmong (text_places text).tasks)
-  contending phase core = of-text (contending_task l phase core) (found-task (is_task_of phase core) l.places.tasks)
+  known-task : (phase core : ℕ) → IfSome (contending_task l phase core) (IsAmong (text_places text).tasks)
+  known-task phase core = of-text (contending_task l phase core) (found-task (is_task_of phase core) l.places.tasks)
 
   guarded : (phase : ℕ) (core : Option ℕ) → IfSome (task_on l.places phase core) (IsAmong (text_places text).tasks)
   guarded phase None = tt
-  guarded phase (Some core) = contending phase core
+  guarded phase (Some core) = known-task phase core
 
-  of-contention : (first second : Option TaskPlace) (w : ℕ) (c : Contention) (line : ℕ) → IfSome first (IsAmong (text_places text).tasks) → IfSome second (IsAmong (text_places text).tasks)
-      → contention_at l.program.regions w first second ≡ Some c → IsAmong (claims_in text l.program.regions c) line → IsClaimedOn text c w line
-  of-contention first second w c line one two e among = by_place (word_place l.program.regions w) refl e
+  of-contender : (task : Option TaskPlace) (way : Way) (w : ℕ) (c : Contender) (line : ℕ) → IfSome task (IsAmong (text_places text).tasks)
+      → contender_at l.program.regions w task way ≡ Some c → IsAmong (claims_in text l.program c) line → IsClaimedOn text l.program.locks c w line
+  of-contender task way w c line known e among = by_place (word_place l.program.regions w) refl e
     where
-      by_place : (o : Option WordPlace) → word_place l.program.regions w ≡ o → option_map (contended first second) o ≡ Some c → IsClaimedOn text c w line
+      by_place : (o : Option WordPlace) → word_place l.program.regions w ≡ o → option_map (contending task way) o ≡ Some c → IsClaimedOn text l.program.locks c w line
       by_place None found e = absurd (none-some c e)
       by_place (Some at') found e =
-          let same = same_Some (contended first second at') c e in
-          let there : IsAmong (claims_in text l.program.regions (contended first second at')) line =
-          subst (λ (x : Contention). IsAmong (claims_in text l.program.regions x) line) (sym same) among in
-          subst (λ (x : Contention). IsClaimedOn text x w line) same
-          (claimed-on text l.program is (contended first second at') w (word-place l.program.regions w at' found) (record { first = one; second = two }) line there)
+          let same = same_Some (contending task way at') c e in
+          let there : IsAmong (claims_in text l.program (contending task way at')) line =
+          subst (λ (x : Contender). IsAmong (claims_in text l.program x) line) (sym same) among in
+          subst (λ (x : Contender). IsClaimedOn text l.program.locks x w line) same
+          (claimed-on text l.program is (contending task way at') w (word-place l.program.regions w at' found) known line there)
 
-  pub quoted-claim : (f : CheckFault) (c : Contention) (line : ℕ) → contention_of l f ≡ Some c → IsAmong (claims_in text l.program.regions c) line → IsClaimedOn text c (conflict_word f) line
-  quoted-claim (PlainConflict phase a b w) c line e among =
-      of-contention (contending_task l phase.0 a.0) (contending_task l phase.0 b.0) w.0 c line (contending phase.0 a.0) (contending phase.0 b.0) e among
-  quoted-claim (GuardedPlain phase lock core w) c line e among =
-      of-contention (task_on l.places phase.0 (guarded_in l.program phase.0 lock.0 w.0)) (contending_task l phase.0 core.0) w.0 c line
-      (guarded phase.0 (guarded_in l.program phase.0 lock.0 w.0)) (contending phase.0 core.0) e among
-  quoted-claim (TwoLocks phase a b w) c line e among =
-      of-contention (task_on l.places phase.0 (guarded_in l.program phase.0 a.0 w.0)) (task_on l.places phase.0 (guarded_in l.program phase.0 b.0 w.0)) w.0 c line
-      (guarded phase.0 (guarded_in l.program phase.0 a.0 w.0)) (guarded phase.0 (guarded_in l.program phase.0 b.0 w.0)) e among
+  pub first-claim : (f : CheckFault) (c : Contender) (line : ℕ) → first_contender l f ≡ Some c → IsAmong (claims_in text l.program c) line
+      → IsClaimedOn text l.program.locks c (conflict_word f) line
+  first-claim (PlainConflict phase a b w) c line e among = of-contender (contending_task l phase.0 a.0) Stores w.0 c line (known-task phase.0 a.0) e among
+  first-claim (GuardedPlain phase lock core w) c line e among =
+      of-contender (task_on l.places phase.0 (guarded_in l.program phase.0 lock.0 w.0)) (Under lock.0) w.0 c line (guarded phase.0 (guarded_in l.program phase.0 lock.0 w.0)) e among
+  first-claim (TwoLocks phase a b w) c line e among =
+      of-contender (task_on l.places phase.0 (guarded_in l.program phase.0 a.0 w.0)) (Under a.0) w.0 c line (guarded phase.0 (guarded_in l.program phase.0 a.0 w.0)) e among
+
+  pub second-claim : (f : CheckFault) (c : Contender) (line : ℕ) → second_contender l f ≡ Some c → IsAmong (claims_in text l.program c) line
+      → IsClaimedOn text l.program.locks c (conflict_word f) line
+  second-claim (PlainConflict phase a b w) c line e among = of-contender (contending_task l phase.0 b.0) Plainly w.0 c line (known-task phase.0 b.0) e among
+  second-claim (GuardedPlain phase lock core w) c line e among = of-contender (contending_task l phase.0 core.0) Plainly w.0 c line (known-task phase.0 core.0) e among
+  second-claim (TwoLocks phase a b w) c line e among =
+      of-contender (task_on l.places phase.0 (guarded_in l.program phase.0 b.0 w.0)) (Under b.0) w.0 c line (guarded phase.0 (guarded_in l.program phase.0 b.0 w.0)) e among

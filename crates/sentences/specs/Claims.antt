@@ -1,7 +1,8 @@
--- Which lines of a text have effects that give a data word to one of the two tasks that conflict on it. The effects of a family
--- of tasks stand after the family's line, and before the next family or phase.
-use Rattle.std.specs.Prelude.{ℕ, ℤ, pos, neg_ℤ, ◌+ℤ◌, ◌*ℤ◌, Bool, true, false, ◌&&◌, ◌||◌, ◌==◌, nat_le, nat_lt, List, [], ◌∷◌, ◌++◌, length, Option, Some, None, option_map, slice_get, bytes_eq, if◌then◌else◌}
+-- Which lines of a text have effects that give a data word to one of the tasks that conflict on it, in the way of the conflict. The
+-- effects of a family of tasks stand after the family's line, and before the next family or phase.
+use Rattle.std.specs.Prelude.{ℕ, ℤ, pos, neg_ℤ, ◌+ℤ◌, ◌*ℤ◌, Bool, true, false, ◌&&◌, ◌==◌, nat_le, nat_lt, List, [], ◌∷◌, ◌++◌, length, Option, Some, None, is_none, option_map, slice_get, bytes_eq, if◌then◌else◌}
 use Rattle.region_table.specs.declared.declared.Region.{Region}
+use Rattle.region_table.specs.Program.{ProgramParts}
 use Rattle.src_text.specs.declared.token.Token.{Token}
 use Rattle.rv_assembler.specs.declared.statement.Effect.{Effect}
 use Rattle.rv_assembler.specs.declared.statement.Extent.{Extent}
@@ -17,7 +18,9 @@ use Rattle.rv_assembler.specs.Source.{readings}
 use Rattle.text_places.specs.declared.places.TaskPlace.{TaskPlace}
 use Rattle.text_places.specs.declared.words.WordPlace.{WordPlace}
 use Rattle.text_places.specs.Words.{word_place}
-use Rattle.sentences.specs.declared.claims.Contention.{Contention}
+use Rattle.sentences.specs.declared.claims.Contender.{Contender}
+use Rattle.sentences.specs.declared.claims.Way.{Way}
+use Rattle.sentences.specs.declared.claims.Way.TheVariants.{Stores, Plainly, Under}
 
 -- whether an index is in an interval that is moved by this much; indices of a region differ by at most 65,536
 abbrev pub moved_has : ℤ → ℤ → ℤ → ℕ → Bool
@@ -44,22 +47,34 @@ abbrev pub names_region : List ℕ → Token → Option Region → Bool
 names_region text t None = false
 names_region text t (Some r) = bytes_eq (bytes_of text t) r.name
 
-abbrev pub effect_claims : List ℕ → List Region → Contention → ℕ → Effect → Bool
-effect_claims text regions c family e =
-    names_region text e.region (slice_get regions c.place.region)
-    && (gives_to family e.extent c.place.index c.first || gives_to family e.extent c.place.index c.second)
+-- whether a token is the name of the lock
+abbrev pub names_lock : List ℕ → Option Token → Option (List ℕ) → Bool
+names_lock text None name = false
+names_lock text (Some t) None = false
+names_lock text (Some t) (Some name) = bytes_eq (bytes_of text t) name
 
-abbrev pub statement_claims : List ℕ → List Region → Contention → ℕ → Statement → Bool
-statement_claims text regions c family (statement.TheVariants.Uses e) = effect_claims text regions c family e
-statement_claims text regions c family _ = false
+-- whether an effect is of this way: a plain one for stores; a plain one; or one under the lock of this number
+abbrev pub uses_so : List ℕ → List (List ℕ) → Way → Bool → Option Token → Bool
+uses_so text locks Stores writes lock = writes && is_none lock
+uses_so text locks Plainly writes lock = is_none lock
+uses_so text locks (Under number) writes lock = names_lock text lock (slice_get locks number)
+
+abbrev pub effect_claims : List ℕ → ProgramParts → Contender → ℕ → Effect → Bool
+effect_claims text p c family e =
+    names_region text e.region (slice_get p.regions c.place.region)
+    && (uses_so text p.locks c.way e.writes e.lock && gives_to family e.extent c.place.index c.task)
+
+abbrev pub statement_claims : List ℕ → ProgramParts → Contender → ℕ → Statement → Bool
+statement_claims text p c family (statement.TheVariants.Uses e) = effect_claims text p c family e
+statement_claims text p c family _ = false
 
 abbrev pub line_if : Bool → ℕ → List ℕ
 line_if b line = if b then line ∷ [] else []
 
 -- the line, if it claims the word
-abbrev pub claim_on : List ℕ → List Region → Contention → ℕ → Reading → List ℕ
-claim_on text regions c family (Bad f) = []
-claim_on text regions c family (Good s) = line_if (statement_claims text regions c family s.statement) s.line
+abbrev pub claim_on : List ℕ → ProgramParts → Contender → ℕ → Reading → List ℕ
+claim_on text p c family (Bad f) = []
+claim_on text p c family (Good s) = line_if (statement_claims text p c family s.statement) s.line
 
 -- the line of the current family after a statement; 0 if there is none
 abbrev pub family_by : ℕ → ℕ → Statement → ℕ
@@ -72,21 +87,21 @@ family_behind family (Bad f) = family
 family_behind family (Good s) = family_by family s.line s.statement
 
 -- the lines that claim the word, where the current family is that of the line `family`
-abbrev pub claims_behind : List ℕ → List Region → Contention → ℕ → List Reading → List ℕ
-claims_behind text regions c family [] = []
-claims_behind text regions c family (r ∷ rs) =
-    claim_on text regions c family r ++ claims_behind text regions c (family_behind family r) rs
+abbrev pub claims_behind : List ℕ → ProgramParts → Contender → ℕ → List Reading → List ℕ
+claims_behind text p c family [] = []
+claims_behind text p c family (r ∷ rs) =
+    claim_on text p c family r ++ claims_behind text p c (family_behind family r) rs
 
-unfoldable pub claims_of : List ℕ → List Region → Contention → List ℕ
-claims_of text regions c = claims_behind text regions c 0 (readings text)
+unfoldable pub claims_of : List ℕ → ProgramParts → Contender → List ℕ
+claims_of text p c = claims_behind text p c 0 (readings text)
 
 -- the lines of a text that claim the word; a text that is too large has none
-abbrev pub claims_in : List ℕ → List Region → Contention → List ℕ
-claims_in text regions c = if nat_lt 1048576 (length text) then [] else claims_of text regions c
+abbrev pub claims_in : List ℕ → ProgramParts → Contender → List ℕ
+claims_in text p c = if nat_lt 1048576 (length text) then [] else claims_of text p c
 
--- the two tasks that conflict on a word, if a region has the word
-abbrev pub contended : Option TaskPlace → Option TaskPlace → WordPlace → Contention
-contended first second place = record { place = place; first = first; second = second }
+-- a task that uses a word in some way, if a region has the word
+abbrev pub contending : Option TaskPlace → Way → WordPlace → Contender
+contending task way place = record { place = place; task = task; way = way }
 
-abbrev pub contention_at : List Region → ℕ → Option TaskPlace → Option TaskPlace → Option Contention
-contention_at regions w first second = option_map (contended first second) (word_place regions w)
+abbrev pub contender_at : List Region → ℕ → Option TaskPlace → Way → Option Contender
+contender_at regions w task way = option_map (contending task way) (word_place regions w)

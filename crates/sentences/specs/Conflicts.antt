@@ -10,8 +10,9 @@ use Rattle.text_places.specs.declared.places.Located.{Located}
 use Rattle.text_places.specs.declared.places.Places.{Places}
 use Rattle.text_places.specs.Words.{is_task_of}
 use Rattle.text_places.specs.Texts.{word_text, lock_text, quoted_line}
-use Rattle.sentences.specs.declared.claims.Contention.{Contention}
-use Rattle.sentences.specs.Claims.{claims_in, contention_at}
+use Rattle.sentences.specs.declared.claims.Contender.{Contender}
+use Rattle.sentences.specs.declared.claims.Way.TheVariants.{Stores, Plainly, Under}
+use Rattle.sentences.specs.Claims.{claims_in, contender_at}
 use Rattle.sentences.specs.Guards.{guarded_in}
 
 -- ---- tasks and locks
@@ -108,18 +109,23 @@ abbrev pub task_on : Places → ℕ → Option ℕ → Option TaskPlace
 task_on places phase None = None
 task_on places phase (Some core) = find (is_task_of phase core) places.tasks
 
--- the two tasks that contend for the word
-abbrev pub contention_of : Located → CheckFault → Option Contention
-contention_of l (conflict.TheVariants.PlainConflict phase a b w) =
-    contention_at l.program.regions w.0 (contending_task l phase.0 a.0) (contending_task l phase.0 b.0)
-contention_of l (conflict.TheVariants.GuardedPlain phase lock core w) =
-    contention_at l.program.regions w.0 (task_on l.places phase.0 (guarded_in l.program phase.0 lock.0 w.0)) (contending_task l phase.0 core.0)
-contention_of l (conflict.TheVariants.TwoLocks phase a b w) =
-    contention_at l.program.regions w.0 (task_on l.places phase.0 (guarded_in l.program phase.0 a.0 w.0))
-    (task_on l.places phase.0 (guarded_in l.program phase.0 b.0 w.0))
+-- the task that a conflict names first, or for which the lock that it names first guards the word
+abbrev pub first_contender : Located → CheckFault → Option Contender
+first_contender l (conflict.TheVariants.PlainConflict phase a b w) = contender_at l.program.regions w.0 (contending_task l phase.0 a.0) Stores
+first_contender l (conflict.TheVariants.GuardedPlain phase lock core w) =
+    contender_at l.program.regions w.0 (task_on l.places phase.0 (guarded_in l.program phase.0 lock.0 w.0)) (Under lock.0)
+first_contender l (conflict.TheVariants.TwoLocks phase a b w) =
+    contender_at l.program.regions w.0 (task_on l.places phase.0 (guarded_in l.program phase.0 a.0 w.0)) (Under a.0)
 
-unfoldable pub claimed_by : List ℕ
-claimed_by = codes "  The effects that claim the word for them:" ++ newline
+-- the other task
+abbrev pub second_contender : Located → CheckFault → Option Contender
+second_contender l (conflict.TheVariants.PlainConflict phase a b w) = contender_at l.program.regions w.0 (contending_task l phase.0 b.0) Plainly
+second_contender l (conflict.TheVariants.GuardedPlain phase lock core w) = contender_at l.program.regions w.0 (contending_task l phase.0 core.0) Plainly
+second_contender l (conflict.TheVariants.TwoLocks phase a b w) =
+    contender_at l.program.regions w.0 (task_on l.places phase.0 (guarded_in l.program phase.0 b.0 w.0)) (Under b.0)
+
+unfoldable pub claimed_by : ℕ → List ℕ
+claimed_by core = codes "  Core " ++ decimal core ++ codes "'s task uses it by:" ++ newline
 
 unfoldable pub claiming_line : List ℕ → ℕ → List ℕ
 claiming_line text line = codes "  " ++ quoted_line text line
@@ -127,17 +133,21 @@ claiming_line text line = codes "  " ++ quoted_line text line
 unfoldable pub more_claims : ℕ → List ℕ
 more_claims n = if n == 0 then [] else codes "  and " ++ decimal n ++ codes " more" ++ newline
 
--- the first four of the lines, and how many more there are
-unfoldable pub some_claims : List ℕ → List ℕ → List ℕ
-some_claims text lines = claimed_by ++ flat_map (claiming_line text) (take 4 lines) ++ more_claims (length lines - 4)
+-- the first three of the lines, and how many more there are
+unfoldable pub some_claims : List ℕ → ℕ → List ℕ → List ℕ
+some_claims text core lines = claimed_by core ++ flat_map (claiming_line text) (take 3 lines) ++ more_claims (length lines - 3)
 
-abbrev pub claims_text : List ℕ → List ℕ → List ℕ
-claims_text text lines = if length lines == 0 then [] else some_claims text lines
+abbrev pub claims_text : List ℕ → ℕ → List ℕ → List ℕ
+claims_text text core lines = if length lines == 0 then [] else some_claims text core lines
 
-abbrev pub contention_text : List ℕ → Located → Option Contention → List ℕ
-contention_text text l None = []
-contention_text text l (Some c) = claims_text text (claims_in text l.program.regions c)
+abbrev pub contender_core : Option TaskPlace → ℕ
+contender_core None = 0
+contender_core (Some t) = t.core
+
+abbrev pub contender_text : List ℕ → Located → Option Contender → List ℕ
+contender_text text l None = []
+contender_text text l (Some c) = claims_text text (contender_core c.task) (claims_in text l.program c)
 
 -- what is said of a conflict
 abbrev pub conflict_sentences : List ℕ → Located → CheckFault → List ℕ
-conflict_sentences text l c = contenders_text l c ++ contention_text text l (contention_of l c) ++ conflict_remedy c
+conflict_sentences text l c = contenders_text l c ++ (contender_text text l (first_contender l c) ++ contender_text text l (second_contender l c)) ++ conflict_remedy c

@@ -1,6 +1,6 @@
 -- The sentences on a task that didn't finish: where it stands in the text, why, and how to mend it. Each line is indented,
 -- which tells it from the lines of an answer.
-use Rattle.std.specs.Prelude.{ℕ, ◌-◌, ◌/◌, ◌%◌, ◌==◌, ◌&&◌, nat_le, List, [], ◌++◌, Option, Some, None, codes, slice_get, find, if◌then◌else◌}
+use Rattle.std.specs.Prelude.{ℕ, ◌-◌, ◌/◌, ◌%◌, ◌==◌, ◌&&◌, nat_le, nat_lt, List, [], ◌++◌, Option, Some, None, codes, slice_get, find, if◌then◌else◌}
 use Rattle.std.specs.Fmt.{decimal}
 use Rattle.text_pieces.specs.Pieces.{newline, hexadecimal}
 use Rattle.region_table.specs.Program.{ProgramParts}
@@ -15,9 +15,10 @@ use Rattle.text_places.specs.declared.places.Located.{Located}
 use Rattle.text_places.specs.declared.places.Places.{Places}
 use Rattle.text_places.specs.Words.{is_task_of}
 use Rattle.text_places.specs.Texts.{address_text, code_text, lock_text, quoted_line}
-use Rattle.sentences.specs.declared.uses.WordUse.{WordUse}
-use Rattle.sentences.specs.declared.uses.WordUse as word_use
-use Rattle.sentences.specs.Uses.{task_use}
+use Rattle.sentences.specs.declared.uses.Access.{Access}
+use Rattle.sentences.specs.declared.uses.Access.TheVariants.{Load, Store}
+use Rattle.sentences.specs.Outside.{outside_sentences}
+use Rattle.sentences.specs.Uses.{instruction_access}
 
 -- how a line of a sentence begins
 abbrev pub indent : List ℕ
@@ -58,25 +59,30 @@ line_at text (Some p) = stands_at text p
 line_at text None = codes " ended where there is no code." ++ newline
 
 -- what is wrong, with the value of the trap in the middle, and how to mend it
-abbrev pub said_before : TrapKind → List ℕ
-said_before kind.TheVariants.Fetch = codes "There is no code word at the address "
-said_before kind.TheVariants.Illegal = codes "The code word "
-said_before kind.TheVariants.Target = codes "A jump to the address "
-said_before kind.TheVariants.Misaligned = codes "A load or store at the address "
-said_before kind.TheVariants.Outside = codes "A load or store at the address "
-said_before kind.TheVariants.Break = codes "An `ebreak`"
-said_before kind.TheVariants.Call = codes "An `ecall` with "
-said_before kind.TheVariants.NoLock = codes "An `ecall` that asks for lock "
-said_before kind.TheVariants.Held = codes "The task acquires "
-said_before kind.TheVariants.NotHeld = codes "The task releases "
-said_before kind.TheVariants.HeldEnd = codes "The task ends while it holds "
+abbrev pub accesses_at : Option Access → List ℕ
+accesses_at (Some Load) = codes "A load from the address "
+accesses_at (Some Store) = codes "A store to the address "
+accesses_at None = codes "A load or store at the address "
+
+abbrev pub said_before : TrapKind → Option Access → List ℕ
+said_before kind.TheVariants.Fetch a = codes "There is no code word at the address "
+said_before kind.TheVariants.Illegal a = codes "The code word "
+said_before kind.TheVariants.Target a = codes "A jump to the address "
+said_before kind.TheVariants.Misaligned a = accesses_at a
+said_before kind.TheVariants.Outside a = accesses_at a
+said_before kind.TheVariants.Break a = codes "An `ebreak`"
+said_before kind.TheVariants.Call a = codes "An `ecall` with "
+said_before kind.TheVariants.NoLock a = codes "An `ecall` that asks for lock "
+said_before kind.TheVariants.Held a = codes "The task acquires "
+said_before kind.TheVariants.NotHeld a = codes "The task releases "
+said_before kind.TheVariants.HeldEnd a = codes "The task ends while it holds "
 
 abbrev pub said_behind : TrapKind → List ℕ
 said_behind kind.TheVariants.Fetch = codes ": the task ran on behind its last instruction, or jumped out of the code."
 said_behind kind.TheVariants.Illegal = codes " is no instruction."
 said_behind kind.TheVariants.Target = codes ", which isn't a multiple of 4, as addresses of instructions are."
 said_behind kind.TheVariants.Misaligned = codes ", which isn't a multiple of the width."
-said_behind kind.TheVariants.Outside = codes ", which this task may not use so with the locks that it holds."
+said_behind kind.TheVariants.Outside = codes " isn't allowed here."
 said_behind kind.TheVariants.Break = codes " ends its task by a trap."
 said_behind kind.TheVariants.Call = codes " in a7."
 said_behind kind.TheVariants.NoLock = codes ", which the text doesn't declare."
@@ -89,7 +95,7 @@ remedy kind.TheVariants.Fetch = codes "End the task by `li a7, 0` and `ecall`."
 remedy kind.TheVariants.Illegal = codes "Only `.raw` makes such a word: write the instruction by its name."
 remedy kind.TheVariants.Target = codes "Jump to a label."
 remedy kind.TheVariants.Misaligned = codes "`lw` and `sw` need a multiple of 4, and `lh`, `lhu` and `sh` an even address."
-remedy kind.TheVariants.Outside = codes "Declare the word behind the task's line by `.reads` or `.writes`, acquire the lock that guards it, or mend the address."
+remedy kind.TheVariants.Outside = codes "Declare the word by an effect behind the task's line, or mend the address."
 remedy kind.TheVariants.Break = codes "Leave it out, or end the task by `li a7, 0` and `ecall`."
 remedy kind.TheVariants.Call = codes "0 ends the task, 1 acquires the lock whose number is in a0, and 2 releases it."
 remedy kind.TheVariants.NoLock = codes "Locks are numbered from 0 in the order of their `.lock` lines; the number is in a0."
@@ -116,38 +122,32 @@ value_text p kind.TheVariants.NotHeld value = lock_text p.locks value
 value_text p kind.TheVariants.HeldEnd value = lock_text p.locks value
 
 -- why a task trapped
-unfoldable pub trap_text : ProgramParts → TrapKind → ℕ → List ℕ
-trap_text p k value = indent ++ said_before k ++ value_text p k value ++ said_behind k ++ newline
-
-unfoldable pub held_alone : List ℕ
-held_alone = codes ": it may use it only while it holds this lock." ++ newline
-
-unfoldable pub declared_under : List ℕ
-declared_under = codes "  It declares the word under "
-
-unfoldable pub guarded_text : ProgramParts → ℕ → List ℕ
-guarded_text p lock = declared_under ++ lock_text p.locks lock ++ held_alone
-
--- what a task declares of a word
-unfoldable pub use_text : ProgramParts → WordUse → List ℕ
-use_text p word_use.TheVariants.Writes = codes "  It declares the word in `.writes`." ++ newline
-use_text p word_use.TheVariants.Reads = codes "  It declares the word in `.reads`: it may load it, and not store to it." ++ newline
-use_text p (word_use.TheVariants.Guarded lock) = guarded_text p lock
-use_text p word_use.TheVariants.Undeclared = codes "  None of its effects has the word." ++ newline
-
--- what the task declares of the word that it may not use in that way
-abbrev pub declares_text : ProgramParts → TrapKind → Option WordUse → List ℕ
-declares_text p kind.TheVariants.Outside (Some u) = use_text p u
-declares_text p _ _ = []
+unfoldable pub trap_text : ProgramParts → TrapKind → Option Access → ℕ → List ℕ
+trap_text p k a value = indent ++ said_before k a ++ value_text p k value ++ said_behind k ++ newline
 
 -- what to do
 unfoldable pub remedy_text : TrapKind → List ℕ
 remedy_text k = indent ++ remedy k ++ newline
 
-unfoldable pub fuel_text : List ℕ
-fuel_text =
-    codes " has retired as many instructions as it may, and hasn't ended." ++ newline
-    ++ indent ++ codes "See whether its loop ends. If it only takes long, the option `--fuel` gives it more." ++ newline
+-- how to mend a trap of the task of this core in this phase; and before that, where a load or store isn't allowed, why
+abbrev pub mending_text : Located → ℕ → ℕ → TrapKind → Option Access → ℕ → List ℕ
+mending_text l phase core kind.TheVariants.Outside (Some a) value = outside_sentences l phase core a value
+mending_text l phase core k a value = remedy_text k
+
+abbrev pub trap_sentences : Located → ℕ → ℕ → TrapKind → Option Access → ℕ → List ℕ
+trap_sentences l phase core k a value = trap_text l.program k a value ++ mending_text l phase core k a value
+
+abbrev pub fuel_remedy : ℕ → List ℕ
+fuel_remedy retired =
+    if nat_lt retired 32768 then codes " If it only takes long, the option `--fuel` gives it more."
+    else codes " It can't be given more instructions than that: if it only takes long, have several tasks share its work."
+
+unfoldable pub out_of_fuel : List ℕ
+out_of_fuel = codes " has retired as many instructions as it may, and hasn't ended.\n  See whether its loop ends."
+
+-- a task may retire 32,768 instructions at most
+unfoldable pub fuel_text : ℕ → List ℕ
+fuel_text retired = out_of_fuel ++ fuel_remedy retired ++ newline
 
 unfoldable pub not_given_up : List ℕ
 not_given_up = codes ", which isn't given up." ++ newline
@@ -170,14 +170,14 @@ unfoldable pub wait_text : ProgramParts → ℕ → List ℕ
 wait_text p lock = codes " waits for " ++ lock_text p.locks lock ++ not_given_up
 
 -- the sentences on how a task stands; `holder` is the core whose task holds the lock that it waits for, if that is known
-abbrev pub end_sentences : List ℕ → Located → Option ℕ → ℕ → ℕ → EndShown → List ℕ
-end_sentences text l holder phase core shown.TheVariants.Finished = []
-end_sentences text l holder phase core shown.TheVariants.Fuel = task_text l.places phase core ++ fuel_text
-end_sentences text l holder phase core (shown.TheVariants.Trap k pc value) =
-    task_text l.places phase core ++ line_at text (code_place_at l.places pc) ++ trap_text l.program k value
-    ++ declares_text l.program k (task_use l.program phase core value) ++ remedy_text k
-end_sentences text l holder phase core (shown.TheVariants.Waits lock) =
+abbrev pub end_sentences : List ℕ → Located → Option ℕ → ℕ → ℕ → ℕ → EndShown → List ℕ
+end_sentences text l holder phase core retired shown.TheVariants.Finished = []
+end_sentences text l holder phase core retired shown.TheVariants.Fuel = task_text l.places phase core ++ fuel_text retired
+end_sentences text l holder phase core retired (shown.TheVariants.Trap k pc value) =
+    task_text l.places phase core ++ line_at text (code_place_at l.places pc)
+    ++ trap_sentences l phase core k (instruction_access l.program pc) value
+end_sentences text l holder phase core retired (shown.TheVariants.Waits lock) =
     task_text l.places phase core ++ wait_text l.program lock.0 ++ holder_text l.places phase holder ++ wait_remedy
 
 abbrev pub ending_text : List ℕ → Located → Option ℕ → TaskEnd → List ℕ
-ending_text text l holder t = end_sentences text l holder t.phase.0 t.core.0 t.end
+ending_text text l holder t = end_sentences text l holder t.phase.0 t.core.0 t.retired t.end

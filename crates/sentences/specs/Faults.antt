@@ -14,7 +14,9 @@ use Rattle.sentences.specs.declared.findings.Wanted as wanted
 use Rattle.sentences.specs.declared.findings.Cause.{Cause}
 use Rattle.sentences.specs.declared.findings.Cause as cause
 use Rattle.sentences.specs.declared.findings.Finding.{Finding}
-use Rattle.sentences.specs.Marks.{mark_line, marked_text}
+use Rattle.sentences.specs.Marks.{bytes_between, mark_line, marked_text}
+use Rattle.sentences.specs.declared.elsewhere.Elsewhere.{Elsewhere}
+use Rattle.sentences.specs.Elsewhere.{instead, word_elsewhere}
 use Rattle.sentences.specs.declared.examples.Form.{Form}
 use Rattle.sentences.specs.declared.examples.Form as form
 use Rattle.sentences.specs.Examples.{operands_as}
@@ -61,7 +63,7 @@ amendment (fault.TheVariants.UnknownWord line) = codes "Write one of the languag
 amendment (fault.TheVariants.BadOperand line) = codes "Write the operands as the table of statements has them, with a comma between two. `addi`, `andi`, `slli` and `li` take a number at the end, and `add`, `and` and `sll` a register."
 amendment (fault.TheVariants.OutOfRange line) = codes "Write a number of its range, or a label that is nearer."
 amendment (fault.TheVariants.DoubleName line) = codes "Labels, regions and locks share one set of names: choose another name."
-amendment (fault.TheVariants.UnknownName line) = codes "Declare it, or look how it is spelled: names are case-sensitive."
+amendment (fault.TheVariants.UnknownName line) = codes "Declare it, or look how it is spelled: names are case-sensitive, and a line that has a fault itself declares nothing."
 amendment (fault.TheVariants.Misplaced line) = codes "Tasks stand behind a `.phase`, each core has one task in a phase, and effects stand behind their task."
 amendment (fault.TheVariants.Limit line) = codes "A program has at most 16384 code words, 65536 data words, 256 regions (4096 in version 2), 32 locks, 64 phases and 64 tasks."
 amendment fault.TheVariants.Memory = codes "Give it more memory."
@@ -77,10 +79,28 @@ range_amendment cause.TheVariants.Cores = codes "Use cores from 0 to 15: the fir
 range_amendment cause.TheVariants.Address = codes "Write a label, or the address of an instruction."
 range_amendment c = codes "Write a number of its range, or a label that is nearer."
 
+-- how to mend a statement that may not stand where it does
+abbrev pub place_amendment : Cause → List ℕ
+place_amendment cause.TheVariants.NoPhase = codes "Write `.phase` before it: tasks stand behind the line of their phase."
+place_amendment (cause.TheVariants.CoreInUse line) = codes "Give it another core; or write `.phase` before it, if it is to start when the tasks before it have ended."
+place_amendment cause.TheVariants.NoTask = codes "Write it behind the line of its task, before the next `.phase`."
+place_amendment c = codes "Tasks stand behind a `.phase`, each core has one task in a phase, and effects stand behind their task."
+
+-- what to write in place of a word or of its operands: for a word that other assemblers know, what this language has; otherwise by
+-- the kind of the fault
+abbrev pub word_amendment : SourceFault → Option Elsewhere → List ℕ
+word_amendment f None = amendment f
+word_amendment f (Some w) = instead w
+
 -- how to mend it, by what is wrong with a part of the line, if that is known
-abbrev pub finding_amendment : SourceFault → Option Finding → List ℕ
-finding_amendment (fault.TheVariants.OutOfRange line) (Some x) = range_amendment x.cause
-finding_amendment f x = amendment f
+abbrev pub finding_amendment : SourceFault → List ℕ → Option Finding → List ℕ
+finding_amendment (fault.TheVariants.OutOfRange line) bytes (Some x) = range_amendment x.cause
+finding_amendment (fault.TheVariants.Misplaced line) bytes (Some x) = place_amendment x.cause
+finding_amendment (fault.TheVariants.UnknownWord line) bytes (Some x) =
+    word_amendment (fault.TheVariants.UnknownWord line) (word_elsewhere (bytes_between bytes x.part.start x.part.end))
+finding_amendment (fault.TheVariants.BadOperand line) bytes (Some x) =
+    word_amendment (fault.TheVariants.BadOperand line) (word_elsewhere (bytes_between bytes x.part.start x.part.end))
+finding_amendment f bytes x = amendment f
 
 unfoldable pub indented_line : List ℕ → ℕ → List ℕ
 indented_line text line = codes "  " ++ quoted_line text line
@@ -139,8 +159,8 @@ index_text words = codes " isn't the index of a word of the region, which has " 
 
 unfoldable pub interval_text : ℕ → List ℕ
 interval_text words =
-    codes " begins an interval that isn't in the region for each of the tasks: the region has " ++ decimal words
-    ++ codes " words, counted from 0, and an interval has at least one of them."
+    codes " isn't an interval of the region's words for each of the tasks. The region has " ++ decimal words
+    ++ codes " words, counted from 0, and an interval has those from its first number to before its second, one at least."
 
 -- which line declares a name, and as what
 unfoldable pub declared_as : ℕ → Sort → List ℕ
@@ -215,7 +235,7 @@ finding_if_small text bytes f = if nat_lt 1048576 (length text) || nat_lt 104857
 -- the line, what is wrong on it, the names that are declared as what is wanted, and how to mend it
 abbrev pub finding_sentences : List ℕ → SourceFault → ℕ → List ℕ → Option Finding → List ℕ
 finding_sentences text f line bytes x =
-    indented_line text line ++ finding_or_kind line bytes f x ++ others text x ++ sentence (finding_amendment f x)
+    indented_line text line ++ finding_or_kind line bytes f x ++ others text x ++ sentence (finding_amendment f bytes x)
 
 unfoldable pub line_sentences : List ℕ → SourceFault → ℕ → List ℕ → List ℕ
 line_sentences text f line bytes = finding_sentences text f line bytes (finding_if_small text bytes f)

@@ -1,12 +1,11 @@
 -- What exactly is wrong on a line: which part of it, and why. The line is read by itself, and positions are counted from its
 -- first byte. What other lines declare is looked up in the whole text.
-use Rattle.std.specs.Prelude.{ℕ, ◌+◌, ℤ, pos, neg_ℤ, Bool, true, false, not, ◌&&◌, ◌||◌, nat_lt, ◌==◌, List, [], ◌∷◌, drop, length, Option, Some, None, option_map, slice_get, find, if◌then◌else◌}
+use Rattle.std.specs.Prelude.{ℕ, ◌+◌, ℤ, pos, neg_ℤ, Bool, true, false, not, ◌&&◌, nat_lt, List, [], ◌∷◌, drop, Option, Some, None, option_map, slice_get, find, if◌then◌else◌}
 use Rattle.std.specs.List.{prefix_len}
 use Rattle.rv_isa.specs.Table.{is_shift}
 use Rattle.src_text.specs.Line.{lines_of}
 use Rattle.src_text.specs.declared.line.Line.{Line}
 use Rattle.src_text.specs.declared.token.Token.{Token}
-use Rattle.src_text.specs.declared.token.TokenKind as token
 use Rattle.rv_assembler.specs.declared.fault.SourceFault.{SourceFault}
 use Rattle.rv_assembler.specs.declared.fault.SourceFault as fault
 use Rattle.rv_assembler.specs.declared.statement.Code.{Code}
@@ -69,6 +68,21 @@ is_number_token t = is_number t.kind
 abbrev pub at_number : Cause → List Token → Option Finding
 at_number c ts = option_map (finding_at c) (find is_number_token ts)
 
+abbrev pub is_number_behind : ℕ → Token → Bool
+is_number_behind place t = is_number_token t && nat_lt place t.start
+
+abbrev pub interval_part : Token → Option Token → Span
+interval_part t None = part_by t
+interval_part t (Some u) = record { start = t.start; end = u.end }
+
+abbrev pub interval_from : Cause → List Token → Option Token → Option Finding
+interval_from c ts None = None
+interval_from c ts (Some t) = Some (record { part = interval_part t (find (is_number_behind t.start) ts); cause = c })
+
+-- from the first number to the next one: both ends of an interval
+abbrev pub at_interval : Cause → List Token → Option Finding
+at_interval c ts = interval_from c ts (find is_number_token ts)
+
 -- a byte that may not stand outside of comments, and the bytes of the same letter
 abbrev pub at_byte : List ℕ → Option ℕ → Option Finding
 at_byte bytes None = None
@@ -121,7 +135,7 @@ out_of_range_at text bytes ts (statement.TheVariants.Word region index value) =
     at_number (cause.TheVariants.Index (words_of_region (known_in text (bytes_of bytes region)))) ts
 out_of_range_at text bytes ts (statement.TheVariants.Tasks f) = tasks_out_of_range ts f
 out_of_range_at text bytes ts (statement.TheVariants.Uses e) =
-    at_number (cause.TheVariants.Interval (words_of_region (known_in text (bytes_of bytes e.region)))) ts
+    at_interval (cause.TheVariants.Interval (words_of_region (known_in text (bytes_of bytes e.region)))) ts
 out_of_range_at text bytes ts _ = None
 
 -- a name that is declared before: by an earlier line, or by this line's label

@@ -1,5 +1,7 @@
+pub mod Causes
 pub mod Claims
 pub mod Conflicts
+pub mod Elsewhere
 pub mod Endings
 pub mod Examples
 pub mod Faults
@@ -7,7 +9,12 @@ pub mod Findings
 pub mod Guards
 pub mod Known
 pub mod Marks
+pub mod Origins
 pub mod Others
+pub mod Outside
+pub mod Quotes
+pub mod Ranges
+pub mod Sites
 pub mod Standing
 pub mod TableClaims
 pub mod Uses

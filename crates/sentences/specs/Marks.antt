@@ -1,7 +1,6 @@
 -- Part of a line, and the mark under it.
-use Rattle.std.specs.Prelude.{ℕ, ◌+◌, ◌-◌, ◌&&◌, ◌==◌, Bool, nat_le, List, [], ◌∷◌, ◌++◌, length, map, take, drop, replicate, slice_range, Option, Some, None, codes, if◌then◌else◌}
+use Rattle.std.specs.Prelude.{ℕ, ◌+◌, ◌-◌, ◌&&◌, ◌==◌, Bool, nat_le, List, [], ◌∷◌, ◌++◌, length, map, take, replicate, slice_range, Option, Some, None, codes, if◌then◌else◌}
 use Rattle.std.specs.Fmt.{decimal}
-use Rattle.std.specs.List.{prefix_len}
 use Rattle.text_pieces.specs.Pieces.{newline}
 use Rattle.src_text.specs.Byte.{is_bad, is_hash}
 use Rattle.src_text.specs.declared.token.Token.{Token}

@@ -1,17 +1,17 @@
 //! Sentences on the effects that claim a word for two tasks.
 ghost use Rattle.std.specs.Prelude.{◌≡◌, ◌++◌, flat_map, OnOk};
 ghost use Rattle.sentences.specs.Guards.{guarded_in};
-ghost use Rattle.sentences.specs.Conflicts.{contending_task, task_on, contention_of, claimed_by, claiming_line, more_claims, some_claims, claims_text, contention_text};
+ghost use Rattle.sentences.specs.Conflicts.{contending_task, task_on, first_contender, second_contender, claimed_by, claiming_line, more_claims, some_claims, claims_text, contender_core, contender_text};
 
-use crate::claims::{Contention, claims_in, contention_at};
+use crate::claims::{Contender, Way, claims_in, contender_at};
 use crate::guards::guarded_in;
 use dn_base::Memory;
 use effect_checker::CheckFault;
-use text_pieces::{push, push_long};
+use text_pieces::{push, push_decimal, push_long};
 use text_places::{Located, Places, TaskPlace, push_quoted_line};
 
-/// The greatest number of lines that are quoted.
-const MOST_QUOTED: usize = 4;
+/// The greatest number of lines that are quoted of a task.
+const MOST_QUOTED: usize = 3;
 
 fn task_on(places: &Places, phase: u32, core: Option<u32>) -> Option<TaskPlace>
     ensures { result ≡ task_on places.now phase core }
@@ -40,52 +40,85 @@ fn guarded_task(located: &Located, phase: u32, lock: u32, word: u32) -> Option<T
     )
 }
 
-/// The two tasks that contend for the word of a conflict.
-fn contention_of(located: &Located, conflict: CheckFault) -> Option<Contention>
-    ensures { result ≡ contention_of located.now conflict }
+/// The task that a conflict names first, or for which the lock that it names first guards the word.
+fn first_contender(located: &Located, conflict: CheckFault) -> Option<Contender>
+    ensures { result ≡ first_contender located.now conflict }
 {
+    let program = &located.program;
     match conflict {
         CheckFault::PlainConflict {
             phase,
             core_a,
-            core_b,
+            core_b: _,
             word,
-        } => contention_at(
-            &located.program,
-            word.0,
-            contending_task(located, phase.0, core_a.0),
-            contending_task(located, phase.0, core_b.0),
-        ),
+        } => {
+            let task = contending_task(located, phase.0, core_a.0);
+            contender_at(program, word.0, task, Way::Stores)
+        }
         CheckFault::GuardedPlain {
             phase,
             lock,
-            core,
+            core: _,
             word,
-        } => contention_at(
-            &located.program,
-            word.0,
-            guarded_task(located, phase.0, lock.0, word.0),
-            contending_task(located, phase.0, core.0),
-        ),
+        } => {
+            let task = guarded_task(located, phase.0, lock.0, word.0);
+            contender_at(program, word.0, task, Way::Under(lock.0 as usize))
+        }
         CheckFault::TwoLocks {
             phase,
             lock_a,
+            lock_b: _,
+            word,
+        } => {
+            let task = guarded_task(located, phase.0, lock_a.0, word.0);
+            contender_at(program, word.0, task, Way::Under(lock_a.0 as usize))
+        }
+    }
+}
+
+/// The other task of a conflict.
+fn second_contender(located: &Located, conflict: CheckFault) -> Option<Contender>
+    ensures { result ≡ second_contender located.now conflict }
+{
+    let program = &located.program;
+    match conflict {
+        CheckFault::PlainConflict {
+            phase,
+            core_a: _,
+            core_b,
+            word,
+        } => {
+            let task = contending_task(located, phase.0, core_b.0);
+            contender_at(program, word.0, task, Way::Plainly)
+        }
+        CheckFault::GuardedPlain {
+            phase,
+            lock: _,
+            core,
+            word,
+        } => {
+            let task = contending_task(located, phase.0, core.0);
+            contender_at(program, word.0, task, Way::Plainly)
+        }
+        CheckFault::TwoLocks {
+            phase,
+            lock_a: _,
             lock_b,
             word,
-        } => contention_at(
-            &located.program,
-            word.0,
-            guarded_task(located, phase.0, lock_a.0, word.0),
-            guarded_task(located, phase.0, lock_b.0, word.0),
-        ),
+        } => {
+            let task = guarded_task(located, phase.0, lock_b.0, word.0);
+            contender_at(program, word.0, task, Way::Under(lock_b.0 as usize))
+        }
     }
 }
 
 #[tactic(auto, unfolding(crate::specs::Conflicts::claimed_by))]
-fn push_claimed_by(out: &mut Vec<u8>) -> Result<(), Memory>
-    ensures { OnOk result (out.new.items ≡ out.old.items ++ claimed_by) }
+fn push_claimed_by(out: &mut Vec<u8>, core: u32) -> Result<(), Memory>
+    ensures { OnOk result (out.new.items ≡ out.old.items ++ claimed_by core) }
 {
-    push(out, b"  The effects that claim the word for them:\n")
+    push(out, b"  Core ")?;
+    push_decimal(out, core)?;
+    push(out, b"'s task uses it by:\n")
 }
 
 #[tactic(auto, unfolding(crate::specs::Conflicts::claiming_line))]
@@ -117,51 +150,62 @@ fn push_more_claims(out: &mut Vec<u8>, number: usize) -> Result<(), Memory>
     push(out, b" more\n")
 }
 
-/// Adds the first four of the lines, and how many more there are.
+/// Adds the first three of the lines, and how many more there are.
 #[tactic(auto, unfolding(crate::specs::Conflicts::some_claims))]
-fn push_some_claims(out: &mut Vec<u8>, text: &[u8], lines: &[u32]) -> Result<(), Memory>
-    ensures { OnOk result (out.new.items ≡ out.old.items ++ some_claims text.now lines.now) }
+fn push_some_claims(out: &mut Vec<u8>, text: &[u8], core: u32, lines: &[u32]) -> Result<(), Memory>
+    ensures { OnOk result (out.new.items ≡ out.old.items ++ some_claims text.now core lines.now) }
 {
-    push_claimed_by(out)?;
+    push_claimed_by(out, core)?;
     push_claiming_lines(out, text, &lines[..lines.len().min(MOST_QUOTED)])?;
     push_more_claims(out, lines.len().saturating_sub(MOST_QUOTED))
 }
 
-fn push_claims(out: &mut Vec<u8>, text: &[u8], lines: &[u32]) -> Result<(), Memory>
-    ensures { OnOk result (out.new.items ≡ out.old.items ++ claims_text text.now lines.now) }
+fn push_claims(out: &mut Vec<u8>, text: &[u8], core: u32, lines: &[u32]) -> Result<(), Memory>
+    ensures { OnOk result (out.new.items ≡ out.old.items ++ claims_text text.now core lines.now) }
 {
     if lines.is_empty() {
         return Ok(());
     }
-    push_some_claims(out, text, lines)
+    push_some_claims(out, text, core, lines)
 }
 
-fn push_contention_by(
+fn contender_core(task: Option<TaskPlace>) -> u32
+    ensures { result ≡ contender_core task }
+{
+    match task {
+        Some(task) => task.core,
+        None => 0,
+    }
+}
+
+/// Adds the lines of the effects by which a task of a conflict uses the word.
+fn push_contender(
     out: &mut Vec<u8>,
     text: &[u8],
     located: &Located,
-    contention: Option<Contention>,
+    contender: Option<Contender>,
 ) -> Result<(), Memory>
-    ensures { OnOk result (out.new.items ≡ out.old.items ++ contention_text text.now located.now contention) }
+    ensures { OnOk result (out.new.items ≡ out.old.items ++ contender_text text.now located.now contender) }
 {
-    match contention {
-        Some(contention) => {
-            let regions = located.program.regions.as_slice();
-            let lines = claims_in(*out.allocator(), text, regions, contention)?;
-            push_claims(out, text, lines.as_slice())
+    match contender {
+        Some(contender) => {
+            let lines = claims_in(*out.allocator(), text, &located.program, contender)?;
+            push_claims(out, text, contender_core(contender.task), lines.as_slice())
         }
         None => Ok(()),
     }
 }
 
-/// Adds the lines of the effects that claim the word of a conflict for its tasks.
+/// Adds the lines of the effects by which the tasks of a conflict use the word.
 pub(crate) fn push_contention(
     out: &mut Vec<u8>,
     text: &[u8],
     located: &Located,
     conflict: CheckFault,
 ) -> Result<(), Memory>
-    ensures { OnOk result (out.new.items ≡ out.old.items ++ contention_text text.now located.now (contention_of located.now conflict)) }
+    ensures { OnOk result (out.new.items ≡ out.old.items ++ (contender_text text.now located.now (first_contender located.now conflict)
+        ++ contender_text text.now located.now (second_contender located.now conflict))) }
 {
-    push_contention_by(out, text, located, contention_of(located, conflict))
+    push_contender(out, text, located, first_contender(located, conflict))?;
+    push_contender(out, text, located, second_contender(located, conflict))
 }

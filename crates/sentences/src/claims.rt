@@ -1,40 +1,47 @@
-//! Which lines of a text have effects that give a data word to one of the two tasks that conflict on it.
+//! Which lines of a text have effects that give a data word to a task that conflicts on it, in the way of the conflict.
 ghost use Rattle.std.specs.Prelude.{◌≡◌, ◌≤◌, ◌++◌, length, map, slice_get, bytes_eq, pos, neg_ℤ, ◌+ℤ◌, ◌*ℤ◌, ◌≤ℤ◌, ◌<ℤ◌, IfOk, OnOk};
 ghost use Rattle.rv_assembler.specs.Number.{is_within};
 ghost use Rattle.rv_assembler.specs.Operand.{bytes_of};
 ghost use Rattle.rv_assembler.specs.Reading.{reading_of};
-ghost use Rattle.sentences.specs.Claims.{moved_has, extent_has, gives_to, names_region, effect_claims, statement_claims, line_if, claim_on, family_by, family_behind, claims_behind, claims_of, claims_in, contention_at};
+ghost use Rattle.sentences.specs.Claims.{moved_has, extent_has, gives_to, names_region, names_lock, uses_so, effect_claims, statement_claims, line_if, claim_on, family_by, family_behind, claims_behind, claims_of, claims_in, contender_at};
 
-use dn_base::{MOST_OF_TEXT, Memory, Sequence};
+use dn_base::{MOST_OF_TEXT, Memory, Name, Sequence};
 use region_table::{Program, Region};
 use rv_assembler::{Effect, Extent, Reading, Statement, read_line, version_line};
 use src_text::{Line, Token, tokens};
 use std::alloc::Global;
 use text_places::{TaskPlace, WordPlace, region_of_word};
 
-/// Two tasks, and the word on which they conflict.
+/// A way to use a word.
 #[derive(Clone, Copy)]
-pub(crate) struct Contention {
-    pub(crate) place: WordPlace,
-    pub(crate) first: Option<TaskPlace>,
-    pub(crate) second: Option<TaskPlace>,
+pub(crate) enum Way {
+    /// Stores to it without a lock.
+    Stores,
+    /// Loads of it or stores to it without a lock.
+    Plainly,
+    /// Loads of it or stores to it under the lock of this number.
+    Under(usize),
 }
 
-/// The contention for a data word of a program, if a region has it.
-pub(crate) fn contention_at(
+/// A task of a conflict, the word of the conflict, and in which way the task uses the word.
+#[derive(Clone, Copy)]
+pub(crate) struct Contender {
+    pub(crate) place: WordPlace,
+    pub(crate) task: Option<TaskPlace>,
+    pub(crate) way: Way,
+}
+
+/// A task that uses a data word of a program in some way, if a region has the word.
+pub(crate) fn contender_at(
     program: &Program,
     word: u32,
-    first: Option<TaskPlace>,
-    second: Option<TaskPlace>,
-) -> Option<Contention>
-    ensures { result ≡ contention_at program.now.regions word first second }
+    task: Option<TaskPlace>,
+    way: Way,
+) -> Option<Contender>
+    ensures { result ≡ contender_at program.now.regions word task way }
 {
     match region_of_word(program, word) {
-        Some(place) => Some(Contention {
-            place,
-            first,
-            second,
-        }),
+        Some(place) => Some(Contender { place, task, way }),
         None => None,
     }
 }
@@ -133,33 +140,56 @@ fn names_region(text: &[u8], token: Token, regions: &[Region], number: usize) ->
     }
 }
 
+/// Whether a token is the name of the lock of this number.
+fn names_lock(text: &[u8], token: Option<Token>, locks: &[Name], number: usize) -> bool
+    ensures { result ≡ names_lock text.now token (slice_get locks.now number) }
+{
+    match (token, locks.get(number)) {
+        (Some(token), Some(name)) => is_spelled(text, token, name.bytes()),
+        _ => false,
+    }
+}
+
+/// Whether an effect for loads, or for stores too, with the name of a lock or without one, is of this way.
+fn uses_so(text: &[u8], locks: &[Name], way: Way, writes: bool, lock: Option<Token>) -> bool
+    ensures { result ≡ uses_so text.now locks.now way writes lock }
+{
+    match way {
+        Way::Stores => writes && lock.is_none(),
+        Way::Plainly => lock.is_none(),
+        Way::Under(number) => names_lock(text, lock, locks, number),
+    }
+}
+
 fn effect_claims(
     text: &[u8],
-    regions: &[Region],
-    contention: Contention,
+    program: &Program,
+    contender: Contender,
     family: u32,
     effect: Effect,
 ) -> bool
-    ensures { result ≡ effect_claims text.now regions.now contention family effect }
+    ensures { result ≡ effect_claims text.now program.now contender family effect }
 {
-    let index = contention.place.index;
-    names_region(text, effect.region, regions, contention.place.region)
-        && (gives_to(family, effect.extent, index, contention.first)
-            || gives_to(family, effect.extent, index, contention.second))
+    let Contender { place, task, way } = contender;
+    let regions = program.regions.as_slice();
+    let locks = program.locks.as_slice();
+    names_region(text, effect.region, regions, place.region)
+        && (uses_so(text, locks, way, effect.writes, effect.lock)
+            && gives_to(family, effect.extent, place.index, task))
 }
 
-/// Whether a statement, where the current family is that of the line `family`, gives one of the tasks the word.
+/// Whether a statement, where the current family is that of the line `family`, gives the task the word.
 fn statement_claims(
     text: &[u8],
-    regions: &[Region],
-    contention: Contention,
+    program: &Program,
+    contender: Contender,
     family: u32,
     statement: &Statement,
 ) -> bool
-    ensures { result ≡ statement_claims text.now regions.now contention family statement.now }
+    ensures { result ≡ statement_claims text.now program.now contender family statement.now }
 {
     match *statement {
-        Statement::Uses(effect) => effect_claims(text, regions, contention, family, effect),
+        Statement::Uses(effect) => effect_claims(text, program, contender, family, effect),
         _ => false,
     }
 }
@@ -174,17 +204,17 @@ fn push_if(lines: &mut Sequence<u32>, claims: bool, line: u32) -> Result<(), Mem
 fn push_claim(
     lines: &mut Sequence<u32>,
     text: &[u8],
-    regions: &[Region],
-    contention: Contention,
+    program: &Program,
+    contender: Contender,
     family: u32,
     reading: &Reading,
 ) -> Result<(), Memory>
-    ensures { OnOk result (lines.new ≡ lines.old ++ claim_on text.now regions.now contention family reading.now) }
+    ensures { OnOk result (lines.new ≡ lines.old ++ claim_on text.now program.now contender family reading.now) }
 {
     match reading {
         Reading::Bad(_) => Ok(()),
         Reading::Good(saying) => {
-            let claims = statement_claims(text, regions, contention, family, &saying.statement);
+            let claims = statement_claims(text, program, contender, family, &saying.statement);
             push_if(lines, claims, saying.line)
         }
     }
@@ -215,16 +245,16 @@ fn claims_among(
     text: &[u8],
     version: u32,
     lines: &[Line],
-    regions: &[Region],
-    contention: Contention,
+    program: &Program,
+    contender: Contender,
 ) -> Result<Sequence<u32>, Memory>
-    ensures { IfOk result (λ claims. claims ≡ claims_behind text.now regions.now contention 0 (map (reading_of version text.now) lines.now)) }
+    ensures { IfOk result (λ claims. claims ≡ claims_behind text.now program.now contender 0 (map (reading_of version text.now) lines.now)) }
 {
     let mut claims = Sequence::new(alloc);
     let mut family = 0;
     for line in lines {
         let reading = read_line(version, text, line);
-        push_claim(&mut claims, text, regions, contention, family, &reading)?;
+        push_claim(&mut claims, text, program, contender, family, &reading)?;
         family = family_behind(family, &reading);
     }
     Ok(claims)
@@ -234,29 +264,29 @@ fn claims_among(
 fn claims_of(
     alloc: Global,
     text: &[u8],
-    regions: &[Region],
-    contention: Contention,
+    program: &Program,
+    contender: Contender,
 ) -> Result<Sequence<u32>, Memory>
     requires { length text.now ≤ 1048576 }
-    ensures { IfOk result (λ claims. claims ≡ claims_of text.now regions.now contention) }
+    ensures { IfOk result (λ claims. claims ≡ claims_of text.now program.now contender) }
 {
     let tokenized = tokens(alloc, text)?;
     let lines = tokenized.as_slice();
     let version = version_line(text, lines);
-    claims_among(alloc, text, version, lines, regions, contention)
+    claims_among(alloc, text, version, lines, program, contender)
 }
 
-/// The lines of a text whose effects give one of the tasks the word.
+/// The lines of a text whose effects give the task the word, in its way.
 pub(crate) fn claims_in(
     alloc: Global,
     text: &[u8],
-    regions: &[Region],
-    contention: Contention,
+    program: &Program,
+    contender: Contender,
 ) -> Result<Sequence<u32>, Memory>
-    ensures { IfOk result (λ claims. claims ≡ claims_in text.now regions.now contention) }
+    ensures { IfOk result (λ claims. claims ≡ claims_in text.now program.now contender) }
 {
     if MOST_OF_TEXT < text.len() {
         return Ok(Sequence::new(alloc));
     }
-    claims_of(alloc, text, regions, contention)
+    claims_of(alloc, text, program, contender)
 }

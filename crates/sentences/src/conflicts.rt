@@ -30,7 +30,12 @@ fn push_declaring(out: &mut Vec<u8>, place: Option<TaskPlace>) -> Result<(), Mem
 
 /// Adds a task by its core, and the line that declares it.
 #[tactic(auto, unfolding(crate::specs::Conflicts::core_text))]
-fn push_core(out: &mut Vec<u8>, places: &Places, phase: u32, core: u32) -> Result<(), Memory>
+pub(crate) fn push_core(
+    out: &mut Vec<u8>,
+    places: &Places,
+    phase: u32,
+    core: u32,
+) -> Result<(), Memory>
     ensures { OnOk result (out.new.items ≡ out.old.items ++ core_text places.now phase core) }
 {
     push(out, b"core ")?;

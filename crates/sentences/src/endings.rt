@@ -1,16 +1,19 @@
 //! Sentences on how a task stands at the end of a run.
 ghost use Rattle.std.specs.Prelude.{◌≡◌, ◌++◌, OnOk};
-ghost use Rattle.sentences.specs.Endings.{which_line, declares_word, the_task, declared_by_line, declared_text, task_text, code_place_at, stands_at, line_at, fuel_text, not_given_up, holds_it, holder_untold, holder_text, wait_remedy, wait_text, ending_text};
+ghost use Rattle.sentences.specs.Quotes.{AreSpans};
+ghost use Rattle.sentences.specs.Endings.{which_line, declares_word, the_task, declared_by_line, declared_text, task_text, code_place_at, stands_at, line_at, fuel_remedy, out_of_fuel, fuel_text, not_given_up, holds_it, holder_untold, holder_text, wait_remedy, wait_text, ending_text};
 
-use crate::traps::{push_declares, push_remedy, push_trap};
-use crate::uses::task_use;
+use crate::quotes::push_line;
+use crate::traps::push_trap;
 use dn_base::Memory;
 use region_table::{FIRST_CODE_ADDRESS, Program};
 use rv_core::{EndShown, TaskEnd};
+use src_text::Span;
 use text_pieces::{push, push_decimal};
-use text_places::{
-    CodePlace, Located, Places, TaskPlace, push_code_place, push_lock, push_quoted_line,
-};
+use text_places::{CodePlace, Located, Places, TaskPlace, push_code_place, push_lock};
+
+/// The greatest number of instructions that a task may retire.
+const MOST_FUEL: u32 = 32768;
 
 #[tactic(auto, unfolding(crate::specs::Endings::which_line))]
 fn push_which_line(out: &mut Vec<u8>) -> Result<(), Memory>
@@ -76,37 +79,65 @@ pub fn code_place_at(places: &Places, address: u32) -> Option<CodePlace>
 }
 
 #[tactic(auto, unfolding(crate::specs::Endings::stands_at))]
-fn push_stands_at(out: &mut Vec<u8>, text: &[u8], place: CodePlace) -> Result<(), Memory>
+fn push_stands_at(
+    out: &mut Vec<u8>,
+    text: &[u8],
+    spans: &[Span],
+    place: CodePlace,
+) -> Result<(), Memory>
+    requires { AreSpans text.now spans.now }
     ensures { OnOk result (out.new.items ≡ out.old.items ++ stands_at text.now place) }
 {
     push(out, b" ended at ")?;
     push_code_place(out, place)?;
     push(out, b":\n  ")?;
-    push_quoted_line(out, text, place.line)
+    push_line(out, text, spans, place.line)
 }
 
 /// Adds where a task ended.
-fn push_line(out: &mut Vec<u8>, text: &[u8], place: Option<CodePlace>) -> Result<(), Memory>
+fn push_end(
+    out: &mut Vec<u8>,
+    text: &[u8],
+    spans: &[Span],
+    place: Option<CodePlace>,
+) -> Result<(), Memory>
+    requires { AreSpans text.now spans.now }
     ensures { OnOk result (out.new.items ≡ out.old.items ++ line_at text.now place) }
 {
     match place {
-        Some(place) => push_stands_at(out, text, place),
+        Some(place) => push_stands_at(out, text, spans, place),
         None => push(out, b" ended where there is no code.\n"),
     }
 }
 
-#[tactic(auto, unfolding(crate::specs::Endings::fuel_text))]
-fn push_fuel(out: &mut Vec<u8>) -> Result<(), Memory>
-    ensures { OnOk result (out.new.items ≡ out.old.items ++ fuel_text) }
+/// How a task of so many instructions may go on.
+fn fuel_remedy(retired: u32) -> &'static [u8]
+    ensures { result.now ≡ fuel_remedy retired }
+{
+    if retired < MOST_FUEL {
+        b" If it only takes long, the option `--fuel` gives it more."
+    } else {
+        b" It can't be given more instructions than that: if it only takes long, have several tasks share its work."
+    }
+}
+
+#[tactic(auto, unfolding(crate::specs::Endings::out_of_fuel))]
+fn push_out_of_fuel(out: &mut Vec<u8>) -> Result<(), Memory>
+    ensures { OnOk result (out.new.items ≡ out.old.items ++ out_of_fuel) }
 {
     push(
         out,
-        b" has retired as many instructions as it may, and hasn't ended.\n",
-    )?;
-    push(
-        out,
-        b"  See whether its loop ends. If it only takes long, the option `--fuel` gives it more.\n",
+        b" has retired as many instructions as it may, and hasn't ended.\n  See whether its loop ends.",
     )
+}
+
+#[tactic(auto, unfolding(crate::specs::Endings::fuel_text))]
+fn push_fuel(out: &mut Vec<u8>, retired: u32) -> Result<(), Memory>
+    ensures { OnOk result (out.new.items ≡ out.old.items ++ fuel_text retired) }
+{
+    push_out_of_fuel(out)?;
+    push(out, fuel_remedy(retired))?;
+    push(out, b"\n")
 }
 
 #[tactic(auto, unfolding(crate::specs::Endings::not_given_up))]
@@ -172,17 +203,19 @@ fn push_wait_remedy(out: &mut Vec<u8>) -> Result<(), Memory>
 
 /// Appends the sentences on how a task of the text's program stands at the end of a run; nothing if it has finished.
 ///
-/// `holder` is the core whose task holds the lock that this task waits for; None if that isn't known, or the task doesn't wait.
+/// `spans` are the places of the text's lines. `holder` is the core whose task holds the lock that this task waits for; None if that isn't known, or the task doesn't wait.
 ///
 /// # Errors
 /// `Memory` if there is no room; the text may have a part of the sentences then.
 pub fn push_ending(
     out: &mut Vec<u8>,
     text: &[u8],
+    spans: &[Span],
     located: &Located,
     task: TaskEnd,
     holder: Option<u32>,
 ) -> Result<(), Memory>
+    requires { AreSpans text.now spans.now }
     ensures { OnOk result (out.new.items ≡ out.old.items ++ ending_text text.now located.now holder task) }
 {
     let (phase, core) = (task.phase.0, task.core.0);
@@ -190,15 +223,12 @@ pub fn push_ending(
         EndShown::Finished => Ok(()),
         EndShown::Fuel => {
             push_task(out, &located.places, phase, core)?;
-            push_fuel(out)
+            push_fuel(out, task.retired)
         }
         EndShown::Trap { kind, pc, value } => {
             push_task(out, &located.places, phase, core)?;
-            push_line(out, text, code_place_at(&located.places, pc))?;
-            push_trap(out, &located.program, kind, value)?;
-            let word_use = task_use(&located.program, phase, core, value);
-            push_declares(out, &located.program, kind, word_use)?;
-            push_remedy(out, kind)
+            push_end(out, text, spans, code_place_at(&located.places, pc))?;
+            push_trap(out, located, (phase, core), kind, pc, value)
         }
         EndShown::Waits { lock } => {
             push_task(out, &located.places, phase, core)?;

@@ -131,12 +131,12 @@ fn push_interval(out: &mut Vec<u8>, words: u64) -> Result<(), Memory>
 {
     push(
         out,
-        b" begins an interval that isn't in the region for each of the tasks: the region has ",
+        b" isn't an interval of the region's words for each of the tasks. The region has ",
     )?;
     push_long(out, words)?;
     push(
         out,
-        b" words, counted from 0, and an interval has at least one of them.",
+        b" words, counted from 0, and an interval has those from its first number to before its second, one at least.",
     )
 }
 

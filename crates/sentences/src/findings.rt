@@ -5,13 +5,13 @@ ghost use Rattle.rv_assembler.specs.Operand.{bytes_of};
 ghost use Rattle.sentences.specs.Marks.{bad_place_from};
 ghost use Rattle.sentences.specs.Examples.{line_alone};
 ghost use Rattle.sentences.specs.Known.{known_in};
-ghost use Rattle.sentences.specs.Findings.{said_alone, version_for_line, finding_at, at_number, at_byte, words_of_sort, words_of_region, out_of_range_at, declared_finding, is_before, declared_token, doubled_token, known_token, declared_at_token, doubled_at, wanted_as, unknown_finding, is_region_sort, is_known_region, want_of_code, want_of_effect, want_of, unknown_if_any, unknown_at, standing_finding, misplaced_at, at_part, finding_by, finding_on, finding_in, finding_of};
+ghost use Rattle.sentences.specs.Findings.{said_alone, version_for_line, finding_at, at_number, at_interval, at_byte, words_of_sort, words_of_region, out_of_range_at, declared_finding, is_before, declared_token, doubled_token, known_token, declared_at_token, doubled_at, wanted_as, unknown_finding, is_region_sort, is_known_region, want_of_code, want_of_effect, want_of, unknown_if_any, unknown_at, standing_finding, misplaced_at, at_part, finding_by, finding_on, finding_in, finding_of};
 
 use crate::examples::Form;
 use crate::known::{Known, Sort, known_in, token_bytes};
 use crate::marks::{bad_place, high_length, part_by};
 use crate::operands::{
-    at_number, at_word, code_out_of_range, limit_at, operand_at, tasks_out_of_range,
+    at_interval, at_number, at_word, code_out_of_range, limit_at, operand_at, tasks_out_of_range,
 };
 use crate::standing::{Standing, standing_in};
 use dn_base::Memory;
@@ -72,7 +72,7 @@ pub(crate) enum Cause {
     Index {
         words: u64,
     },
-    /// It begins no interval of a region with this many words.
+    /// It is no interval of a region with this many words.
     Interval {
         words: u64,
     },
@@ -182,7 +182,7 @@ fn out_of_range_at(
         Statement::Tasks(family) => Ok(tasks_out_of_range(tokens, family)),
         Statement::Uses(effect) => {
             let words = words_named(alloc, text, bytes, effect.region)?;
-            Ok(at_number(Cause::Interval { words }, tokens))
+            Ok(at_interval(Cause::Interval { words }, tokens))
         }
         _ => Ok(None),
     }

@@ -1,9 +1,12 @@
 //! What is said of each kind of fault.
 ghost use Rattle.std.specs.Prelude.{◌≡◌};
-ghost use Rattle.sentences.specs.Faults.{faulty_line, complaint, amendment, range_amendment, finding_amendment};
+ghost use Rattle.sentences.specs.Faults.{faulty_line, complaint, amendment, range_amendment, place_amendment, word_amendment, finding_amendment};
 
+use crate::elsewhere::{Elsewhere, instead, word_elsewhere};
 use crate::findings::{Cause, Finding};
+use crate::marks::bytes_between;
 use rv_assembler::SourceFault;
+use src_text::Span;
 
 /// The line with the fault; None if the fault isn't that of a line.
 pub(crate) fn faulty_line(fault: SourceFault) -> Option<u32>
@@ -69,7 +72,7 @@ pub(crate) fn amendment(fault: SourceFault) -> &'static [u8]
         SourceFault::DoubleName { .. } =>
             b"Labels, regions and locks share one set of names: choose another name.",
         SourceFault::UnknownName { .. } =>
-            b"Declare it, or look how it is spelled: names are case-sensitive.",
+            b"Declare it, or look how it is spelled: names are case-sensitive, and a line that has a fault itself declares nothing.",
         SourceFault::Misplaced { .. } =>
             b"Tasks stand behind a `.phase`, each core has one task in a phase, and effects stand behind their task.",
         SourceFault::Limit { .. } =>
@@ -99,12 +102,48 @@ fn range_amendment(cause: Cause) -> &'static [u8]
     }
 }
 
-/// How to mend it, by what is wrong with a part of the line, if that is known.
-pub(crate) fn finding_amendment(fault: SourceFault, finding: Option<Finding>) -> &'static [u8]
-    ensures { result.now ≡ finding_amendment fault finding }
+/// How to mend a statement that may not stand where it does.
+fn place_amendment(cause: Cause) -> &'static [u8]
+    ensures { result.now ≡ place_amendment cause }
 {
-    match (fault, finding) {
-        (SourceFault::OutOfRange { .. }, Some(finding)) => range_amendment(finding.cause),
+    match cause {
+        Cause::NoPhase => b"Write `.phase` before it: tasks stand behind the line of their phase.",
+        Cause::CoreInUse { .. } =>
+            b"Give it another core; or write `.phase` before it, if it is to start when the tasks before it have ended.",
+        Cause::NoTask => b"Write it behind the line of its task, before the next `.phase`.",
+        _ =>
+            b"Tasks stand behind a `.phase`, each core has one task in a phase, and effects stand behind their task.",
+    }
+}
+
+/// What to write in place of a word or of its operands.
+fn word_amendment(fault: SourceFault, word: Option<Elsewhere>) -> &'static [u8]
+    ensures { result.now ≡ word_amendment fault word }
+{
+    match word {
+        Some(word) => instead(word),
+        None => amendment(fault),
+    }
+}
+
+/// How to mend it, by what is wrong with a part of the line, if that is known.
+pub(crate) fn finding_amendment(
+    fault: SourceFault,
+    bytes: &[u8],
+    finding: Option<Finding>,
+) -> &'static [u8]
+    ensures { result.now ≡ finding_amendment fault bytes.now finding }
+{
+    let Some(finding) = finding else {
+        return amendment(fault);
+    };
+    let Span { start, end } = finding.part;
+    match fault {
+        SourceFault::OutOfRange { .. } => range_amendment(finding.cause),
+        SourceFault::Misplaced { .. } => place_amendment(finding.cause),
+        SourceFault::UnknownWord { .. } | SourceFault::BadOperand { .. } => {
+            word_amendment(fault, word_elsewhere(bytes_between(bytes, start, end)))
+        }
         _ => amendment(fault),
     }
 }

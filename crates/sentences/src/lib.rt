@@ -5,6 +5,7 @@
 mod claiming;
 mod claims;
 mod conflicts;
+mod elsewhere;
 mod endings;
 mod examples;
 mod faults;
@@ -16,7 +17,11 @@ mod laws;
 mod marks;
 mod operands;
 mod others;
+mod others_use;
+mod outside;
+mod quotes;
 mod refusal;
+mod sites;
 mod standing;
 mod traps;
 mod uses;
@@ -24,6 +29,11 @@ mod uses;
 pub use conflicts::push_conflict;
 pub use endings::{code_place_at, push_ending};
 pub use laws::{
+    a_name_means_what_it_is_said_to_be_declared_as, a_named_range_is_the_tested_one,
     a_quoted_effect_claims_the_word_for_its_task, an_effect_gives_the_words_that_it_claims,
+    an_effect_named_as_remedy_gives_the_right, each_part_comes_from_its_line,
+    the_named_words_are_those_of_the_region, what_is_said_of_other_tasks_holds,
+    what_is_said_of_own_effects_holds,
 };
+pub use quotes::{line_spans, push_line};
 pub use refusal::push_refusal;

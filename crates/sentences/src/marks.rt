@@ -30,7 +30,7 @@ pub(crate) fn part_by(token: Token) -> Span
 }
 
 /// The first `count` bytes, or all if there are fewer.
-fn first(bytes: &[u8], count: usize) -> &[u8]
+pub(crate) fn first(bytes: &[u8], count: usize) -> &[u8]
     ensures { result.now ≡ take count bytes.now }
 {
     if count <= bytes.len() {

@@ -3,15 +3,16 @@ ghost use Rattle.std.specs.Prelude.{◌≡◌, option_map, slice_get, find, IfOk
 ghost use Rattle.rv_isa.specs.Table.{is_shift};
 ghost use Rattle.rv_assembler.specs.Fault.{are_cores};
 ghost use Rattle.rv_assembler.specs.Shape.{is_name, is_colon, is_plain};
-ghost use Rattle.sentences.specs.Findings.{behind_label, at_word, is_number_token, at_number, at_range, at_offset, code_out_of_range, tasks_out_of_range, excess, at_word_if, limit_at, word_or_operands, at_first, dotted_label, operand_at};
+ghost use Rattle.sentences.specs.Findings.{behind_label, at_word, is_number_token, at_number, is_number_behind, interval_part, at_interval, at_range, at_offset, code_out_of_range, tasks_out_of_range, excess, at_word_if, limit_at, word_or_operands, at_first, dotted_label, operand_at};
 
 use crate::examples::form_for;
 use crate::findings::{Cause, Finding, finding_at};
 use crate::known::token_bytes;
+use crate::marks::part_by;
 use dn_base::Memory;
 use rv_assembler::{Code, Family, Statement};
 use rv_isa::AluOp;
-use src_text::{Token, TokenKind};
+use src_text::{Span, Token, TokenKind};
 use std::alloc::Global;
 
 fn is_name(token: Token) -> bool
@@ -76,6 +77,50 @@ pub(crate) fn at_number(cause: Cause, tokens: &[Token]) -> Option<Finding>
 {
     match first_number(tokens) {
         Some(number) => Some(finding_at(cause, number)),
+        None => None,
+    }
+}
+
+/// Whether a token is a number that begins behind a place.
+fn is_number_behind(place: u32, token: Token) -> bool
+    ensures { result ≡ is_number_behind place token }
+{
+    is_number(token) && place < token.start
+}
+
+/// The first number that begins behind a place.
+fn number_behind(place: u32, tokens: &[Token]) -> Option<Token>
+    ensures { result ≡ find (is_number_behind place) tokens.now }
+{
+    for token in tokens {
+        if is_number_behind(place, *token) {
+            return Some(*token);
+        }
+    }
+    None
+}
+
+fn interval_part(first: Token, second: Option<Token>) -> Span
+    ensures { result ≡ interval_part first second }
+{
+    match second {
+        Some(second) => Span {
+            start: first.start as usize,
+            end: second.end as usize,
+        },
+        None => part_by(first),
+    }
+}
+
+/// From the first number to the next one: both ends of an interval.
+pub(crate) fn at_interval(cause: Cause, tokens: &[Token]) -> Option<Finding>
+    ensures { result ≡ at_interval cause tokens.now }
+{
+    match first_number(tokens) {
+        Some(first) => Some(Finding {
+            part: interval_part(first, number_behind(first.start, tokens)),
+            cause,
+        }),
         None => None,
     }
 }

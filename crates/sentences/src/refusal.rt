@@ -77,7 +77,7 @@ fn push_line_sentences(
     push_indented_line(out, text, line)?;
     push_finding_or_kind(out, line, bytes, fault, finding)?;
     push_others(out, text, finding)?;
-    push_sentence(out, finding_amendment(fault, finding))
+    push_sentence(out, finding_amendment(fault, bytes, finding))
 }
 
 /// Adds what is wrong and how it is mended, by the kind of the fault alone.

@@ -1,24 +1,35 @@
 //! Sentences on traps.
 ghost use Rattle.std.specs.Prelude.{◌≡◌, ◌++◌, OnOk};
-ghost use Rattle.sentences.specs.Endings.{said_before, said_behind, remedy, data_text, value_text, trap_text, held_alone, declared_under, guarded_text, use_text, declares_text, remedy_text};
+ghost use Rattle.sentences.specs.Endings.{accesses_at, said_before, said_behind, remedy, data_text, value_text, trap_text, remedy_text, mending_text, trap_sentences};
+ghost use Rattle.sentences.specs.Uses.{instruction_access};
 
-use crate::uses::WordUse;
+use crate::outside::push_outside;
+use crate::uses::{Access, instruction_access};
 use dn_base::Memory;
 use region_table::Program;
 use rv_core::TrapKind;
 use text_pieces::{push, push_decimal, push_hexadecimal};
-use text_places::{push_address, push_lock};
+use text_places::{Located, push_address, push_lock};
 
-/// What is said before the value of a trap.
-fn said_before(kind: TrapKind) -> &'static [u8]
-    ensures { result.now ≡ said_before kind }
+fn accesses_at(access: Option<Access>) -> &'static [u8]
+    ensures { result.now ≡ accesses_at access }
+{
+    match access {
+        Some(Access::Load) => b"A load from the address ",
+        Some(Access::Store) => b"A store to the address ",
+        None => b"A load or store at the address ",
+    }
+}
+
+/// What is said before the value of a trap at an instruction that accesses memory so.
+fn said_before(kind: TrapKind, access: Option<Access>) -> &'static [u8]
+    ensures { result.now ≡ said_before kind access }
 {
     match kind {
         TrapKind::Fetch => b"There is no code word at the address ",
         TrapKind::Illegal => b"The code word ",
         TrapKind::Target => b"A jump to the address ",
-        TrapKind::Misaligned => b"A load or store at the address ",
-        TrapKind::Outside => b"A load or store at the address ",
+        TrapKind::Misaligned | TrapKind::Outside => accesses_at(access),
         TrapKind::Break => b"An `ebreak`",
         TrapKind::Call => b"An `ecall` with ",
         TrapKind::NoLock => b"An `ecall` that asks for lock ",
@@ -38,7 +49,7 @@ fn said_behind(kind: TrapKind) -> &'static [u8]
         TrapKind::Illegal => b" is no instruction.",
         TrapKind::Target => b", which isn't a multiple of 4, as addresses of instructions are.",
         TrapKind::Misaligned => b", which isn't a multiple of the width.",
-        TrapKind::Outside => b", which this task may not use so with the locks that it holds.",
+        TrapKind::Outside => b" isn't allowed here.",
         TrapKind::Break => b" ends its task by a trap.",
         TrapKind::Call => b" in a7.",
         TrapKind::NoLock => b", which the text doesn't declare.",
@@ -59,7 +70,7 @@ fn remedy(kind: TrapKind) -> &'static [u8]
         TrapKind::Misaligned =>
             b"`lw` and `sw` need a multiple of 4, and `lh`, `lhu` and `sh` an even address.",
         TrapKind::Outside =>
-            b"Declare the word behind the task's line by `.reads` or `.writes`, acquire the lock that guards it, or mend the address.",
+            b"Declare the word by an effect behind the task's line, or mend the address.",
         TrapKind::Break => b"Leave it out, or end the task by `li a7, 0` and `ecall`.",
         TrapKind::Call =>
             b"0 ends the task, 1 acquires the lock whose number is in a0, and 2 releases it.",
@@ -105,80 +116,63 @@ fn push_value(
 
 /// Adds why a task trapped.
 #[tactic(auto, unfolding(crate::specs::Endings::trap_text))]
-pub(crate) fn push_trap(
+fn push_trap_line(
     out: &mut Vec<u8>,
     program: &Program,
     kind: TrapKind,
+    access: Option<Access>,
     value: u32,
 ) -> Result<(), Memory>
-    ensures { OnOk result (out.new.items ≡ out.old.items ++ trap_text program.now kind value) }
+    ensures { OnOk result (out.new.items ≡ out.old.items ++ trap_text program.now kind access value) }
 {
     push(out, b"  ")?;
-    push(out, said_before(kind))?;
+    push(out, said_before(kind, access))?;
     push_value(out, program, kind, value)?;
     push(out, said_behind(kind))?;
     push(out, b"\n")
 }
 
-#[tactic(auto, unfolding(crate::specs::Endings::held_alone))]
-fn push_held_alone(out: &mut Vec<u8>) -> Result<(), Memory>
-    ensures { OnOk result (out.new.items ≡ out.old.items ++ held_alone) }
-{
-    push(out, b": it may use it only while it holds this lock.\n")
-}
-
-#[tactic(auto, unfolding(crate::specs::Endings::declared_under))]
-fn push_declared_under(out: &mut Vec<u8>) -> Result<(), Memory>
-    ensures { OnOk result (out.new.items ≡ out.old.items ++ declared_under) }
-{
-    push(out, b"  It declares the word under ")
-}
-
-#[tactic(auto, unfolding(crate::specs::Endings::guarded_text))]
-fn push_guarded(out: &mut Vec<u8>, program: &Program, lock: usize) -> Result<(), Memory>
-    ensures { OnOk result (out.new.items ≡ out.old.items ++ guarded_text program.now lock) }
-{
-    push_declared_under(out)?;
-    push_lock(out, program.locks.as_slice(), lock)?;
-    push_held_alone(out)
-}
-
-#[tactic(auto, unfolding(crate::specs::Endings::use_text))]
-fn push_use(out: &mut Vec<u8>, program: &Program, word_use: WordUse) -> Result<(), Memory>
-    ensures { OnOk result (out.new.items ≡ out.old.items ++ use_text program.now word_use) }
-{
-    match word_use {
-        WordUse::Writes => push(out, b"  It declares the word in `.writes`.\n"),
-        WordUse::Reads => push(
-            out,
-            b"  It declares the word in `.reads`: it may load it, and not store to it.\n",
-        ),
-        WordUse::Guarded(lock) => push_guarded(out, program, lock),
-        WordUse::Undeclared => push(out, b"  None of its effects has the word.\n"),
-    }
-}
-
-/// Adds what the task declares of the word that it may not use in that way.
-pub(crate) fn push_declares(
-    out: &mut Vec<u8>,
-    program: &Program,
-    kind: TrapKind,
-    word_use: Option<WordUse>,
-) -> Result<(), Memory>
-    ensures { OnOk result (out.new.items ≡ out.old.items ++ declares_text program.now kind word_use) }
-{
-    match (kind, word_use) {
-        (TrapKind::Outside, Some(word_use)) => push_use(out, program, word_use),
-        _ => Ok(()),
-    }
-}
-
 /// Adds what to do.
 #[tactic(auto, unfolding(crate::specs::Endings::remedy_text))]
-pub(crate) fn push_remedy(out: &mut Vec<u8>, kind: TrapKind) -> Result<(), Memory>
+fn push_remedy(out: &mut Vec<u8>, kind: TrapKind) -> Result<(), Memory>
     ensures { OnOk result (out.new.items ≡ out.old.items ++ remedy_text kind) }
 {
     push(out, b"  ")?;
     push(out, remedy(kind))?;
     push(out, b"\n")
+}
+
+/// Adds how to mend a trap; and before that, where a load or store isn't allowed, why.
+fn push_mending(
+    out: &mut Vec<u8>,
+    located: &Located,
+    task: (u32, u32),
+    kind: TrapKind,
+    access: Option<Access>,
+    value: u32,
+) -> Result<(), Memory>
+    ensures { OnOk result (out.new.items ≡ out.old.items ++ mending_text located.now task.0 task.1 kind access value) }
+{
+    match (kind, access) {
+        (TrapKind::Outside, Some(access)) => {
+            push_outside(out, located, task.0, task.1, access, value)
+        }
+        _ => push_remedy(out, kind),
+    }
+}
+
+/// Adds why the task of this phase and core trapped at an address, and how to mend it.
+pub(crate) fn push_trap(
+    out: &mut Vec<u8>,
+    located: &Located,
+    task: (u32, u32),
+    kind: TrapKind,
+    pc: u32,
+    value: u32,
+) -> Result<(), Memory>
+    ensures { OnOk result (out.new.items ≡ out.old.items ++ trap_sentences located.now task.0 task.1 kind (instruction_access located.now.program pc) value) }
+{
+    let access = instruction_access(&located.program, pc);
+    push_trap_line(out, &located.program, kind, access, value)?;
+    push_mending(out, located, task, kind, access, value)
 }

@@ -20,7 +20,8 @@ use Rattle.run_account.specs.Tallies.{Tallies}
 use Rattle.run_account.specs.Account.{no_account, account_of_run}
 use Rattle.run_account.specs.declared.form.Form.{Form}
 use Rattle.run_account.specs.declared.form.Form as form
-use Rattle.run_account.specs.Forms.{account_text}
+use Rattle.run_account.specs.Forms.{account_text, lists_text}
+use Rattle.sharer_lists.specs.Runs.{nothing_listed, count_of_run}
 use Rattle.message_chart.specs.declared.chart.Chart.{Chart}
 use Rattle.message_chart.specs.Picture.{svg_of}
 use Rattle.run_chart.specs.declared.drawing.Range.{Range}
@@ -121,6 +122,20 @@ pub record IsAccount (P : ProgramParts) (s : TraceShape) (o : AccountOptions) (r
   pub counted : IsAccountOf P (shape_told P s) s.fuel r.events o.by tallies
   pub answer : out ≡ made (heading_of o.form r ++ account_text o.form P tallies)
 
+-- ---- a run beside lists of sharers
+
+-- the numbers are those of these events beside lists
+pub record IsListingOf (P : ProgramParts) (shape : Shape) (fuel : ℕ) (events : List Event) (by : Grouping) (tallies : Tallies) : Type 0 where
+  pub setting : Setting
+  pub setting_is : IsSettingOf P shape fuel setting
+  pub is : tallies ≡ (count_of_run (initial_state setting) (nothing_listed setting by) events).tallies
+
+-- the output is the run beside lists, in the groups and in the form that the options ask for
+pub record IsBeside (P : ProgramParts) (s : TraceShape) (o : AccountOptions) (r : RunRecord) (out : Output) : Type 0 where
+  pub tallies : Tallies
+  pub counted : IsListingOf P (shape_told P s) s.fuel r.events o.by tallies
+  pub answer : out ≡ made (heading_of o.form r ++ lists_text o.form P tallies)
+
 -- ---- a state
 
 -- whether the state is the one that was asked for, or that before an earlier event
@@ -187,6 +202,7 @@ IsPaged P s text o r out = IsPageData P s text o r out ⊎ IsPastEnd o.first r.e
 abbrev pub view_made : View → List ℕ → Output → Type 0
 view_made (view.Chart o) document out = HasKeptRun document (λ L t r. IsDrawn L t.shape o r out)
 view_made (view.Account o) document out = HasKeptRun document (λ L t r. IsAccount L.program t.shape o r out)
+view_made (view.Lists o) document out = HasKeptRun document (λ L t r. IsBeside L.program t.shape o r out)
 view_made (view.State o) document out = HasTrace document (λ t. HasChecked t.text (λ P. IsStateShown P t o out))
 view_made (view.Page o) document out = HasKeptRun document (λ L t r. IsPaged L.program t.shape t.text o r out)
 
@@ -195,6 +211,7 @@ view_made (view.Page o) document out = HasKeptRun document (λ L t r. IsPaged L.
 abbrev pub view_refused : View → List ℕ → List ℕ → Type 0
 view_refused (view.Chart o) document line = IsRefusedDocument document line
 view_refused (view.Account o) document line = IsRefusedDocument document line
+view_refused (view.Lists o) document line = IsRefusedDocument document line
 view_refused (view.State o) document line = IsWithoutProgram document line
 view_refused (view.Page o) document line = IsRefusedDocument document line
 

@@ -91,7 +91,7 @@ grouping_in rows = option_and_then grouping_named (first_of (codes "by") rows)
 abbrev pub form_in : List Row → Option Form
 form_in rows = option_and_then form_named (first_of (codes "form") rows)
 
--- what an account is asked
+-- what an account is asked, and a run beside lists
 unfoldable pub account_options_from : List Row → Option AccountOptions
 account_options_from rows =
     option_and_then (λ (grouping : Grouping).
@@ -127,6 +127,7 @@ abbrev pub view_named : Option ChartOptions → AccountOptions → StateOptions 
 view_named chart account state page text =
     if bytes_eq text (codes "chart") then option_map view.TheVariants.Chart chart
     else if bytes_eq text (codes "account") then Some (view.TheVariants.Account account)
+    else if bytes_eq text (codes "lists") then Some (view.TheVariants.Lists account)
     else if bytes_eq text (codes "state") then Some (view.TheVariants.State state)
     else if bytes_eq text (codes "page") then Some (view.TheVariants.Page page)
     else None
@@ -166,9 +167,10 @@ pub record IsPageInRange (o : PageOptions) : Type 0 where
   pub tick_bank : IsInRange 1 1000000 o.tick_bank
   pub tick_mail : IsInRange 1 1000000 o.tick_mail
 
--- each number of a mode is; an account and a state have none that is limited
+-- each number of a mode is; an account, lists and a state have none that is limited
 abbrev pub IsViewInRange : View → Type 0
 IsViewInRange (view.TheVariants.Chart o) = IsChartInRange o
 IsViewInRange (view.TheVariants.Account o) = Unit {0}
+IsViewInRange (view.TheVariants.Lists o) = Unit {0}
 IsViewInRange (view.TheVariants.State o) = Unit {0}
 IsViewInRange (view.TheVariants.Page o) = IsPageInRange o

@@ -46,7 +46,7 @@ fn counted(
 }
 
 /// What stands above the numbers: for readers the report of the run, for other programs nothing.
-fn heading(alloc: Global, form: Form, run: &RunRecord) -> Result<Vec<u8>, Memory>
+pub(crate) fn heading(alloc: Global, form: Form, run: &RunRecord) -> Result<Vec<u8>, Memory>
     requires { IsPrintable run.now }
     ensures { IfOk result (λ text. text.items ≡ heading_of form run.now) }
 {

@@ -6,6 +6,7 @@ ghost use Rattle.view_top.specs.Command.{IsViewInRange};
 use crate::View;
 use crate::accounts::account_document;
 use crate::charts::draw_document;
+use crate::lists::lists_document;
 use crate::pages::page_document;
 use crate::states::show_state;
 use crate::status::ViewStatus;
@@ -51,6 +52,7 @@ fn view_made(alloc: Global, view: &View, document: &[u8]) -> Result<Output, Stop
     match view {
         View::Chart(options) => draw_document(alloc, options, document),
         View::Account(options) => account_document(alloc, options, document),
+        View::Lists(options) => lists_document(alloc, options, document),
         View::State(options) => show_state(alloc, options, document),
         View::Page(options) => page_document(alloc, options, document),
     }
@@ -62,7 +64,8 @@ fn view_made(alloc: Global, view: &View, document: &[u8]) -> Result<Output, Stop
 /// the message chart of the run, as an SVG text. The options choose the events that have rows and the banks that have columns;
 /// the events of the run's longest chain of dependent events, by the options' ticks, are marked. If the first row would be
 /// after the run's last event, the words are refused. In the mode account the answer is the account of the run, in the groups
-/// and the form of the options; as a text it follows the report of the run, which is what the mode run of denovo prints.
+/// and the form of the options; as a text it follows the report of the run, which is what the mode run of denovo prints. In the
+/// mode lists it is the run beside lists of sharers, in the same groups and forms.
 ///
 /// In the mode state the answer is the state before the event that the options ask for, and which events may come there. This
 /// mode also takes documents whose events are no complete run. If one of the events before the asked one may not come, the

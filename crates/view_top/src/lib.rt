@@ -6,6 +6,7 @@ mod answering;
 mod charts;
 mod command;
 mod documents;
+mod lists;
 mod options;
 mod pages;
 mod program;

@@ -9,6 +9,8 @@ pub enum View {
     Chart(ChartOptions),
     /// What the run cost and why, in numbers.
     Account(AccountOptions),
+    /// The run beside lists of sharers, in numbers.
+    Lists(AccountOptions),
     /// A state of the run, and what may come there.
     State(StateOptions),
     /// The data of the page that shows the run in a browser, as one JSON text.
@@ -32,7 +34,7 @@ pub struct ChartOptions {
     pub tick_mail: u32,
 }
 
-/// What the words ask of an account.
+/// What the words ask of an account, and of a run beside lists of sharers.
 #[derive(Clone, Copy)]
 pub struct AccountOptions {
     /// What the groups of its numbers are.

@@ -113,7 +113,7 @@ fn form(matches: &ArgMatches<'_>) -> Option<Form>
     }
 }
 
-/// What an account is asked.
+/// What an account is asked, and a run beside lists.
 #[tactic(auto, unfolding(crate::specs::Command::account_options_from))]
 fn account_options(matches: &ArgMatches<'_>) -> Option<AccountOptions>
     ensures { result ≡ account_options_from (rows_of (found_of matches.now)) }
@@ -165,6 +165,7 @@ fn view_named(
     match text {
         "chart" => Some(View::Chart(chart?)),
         "account" => Some(View::Account(account)),
+        "lists" => Some(View::Lists(account)),
         "state" => Some(View::State(state)),
         "page" => Some(View::Page(page)),
         _ => None,

@@ -3,7 +3,9 @@
 .region numbers, 32
 .region counts, 8
 .lock sums
+.region guard_0, 128
 .region stack_0, 64
+.region guard_1, 128
 .region stack_1, 64
 .phase
 .task 0, fill_on_0, 0

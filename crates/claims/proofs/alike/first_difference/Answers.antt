@@ -1,4 +1,4 @@
-use Rattle.std.proofs.Common.{◌≡◌, Some, sym, ap, ◌∙◌, arith}
+use Rattle.std.proofs.Common.{sym, ◌∙◌, arith}
 use Rattle.claims.proofs.Places.{from_start, from_more, from_here, from_short}
 use Rattle.claims.proofs.alike.first_difference.Goals as goal
 

@@ -1,5 +1,5 @@
 use Rattle.std.proofs.Common.{◌≡◌, ◌++◌, drop, map}
-use Rattle.explained_answer.specs.Quotes.{span_bytes}
+use Rattle.sentences.specs.Quotes.{span_bytes}
 use Rattle.explained_answer.specs.Listing.{explained_from}
 use Rattle.explained_answer.proofs.listing.push_lines.Given as goal
 

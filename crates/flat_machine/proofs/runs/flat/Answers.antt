@@ -1,4 +1,4 @@
-use Rattle.std.proofs.Common.{◌≡◌, sym, subst}
+use Rattle.std.proofs.Common.{sym, subst}
 use Rattle.flat_machine.specs.Refused.{IsRunBy}
 use Rattle.flat_machine.proofs.RefusedLemmas.{refused_none}
 use Rattle.flat_machine.proofs.runs.flat.Goals as goal

@@ -1,5 +1,5 @@
-use Rattle.machine_rules.proofs.InProgramOrder.{run-sequential}
+use Rattle.machine_rules.proofs.InProgramOrder.{well-sequential}
 use Rattle.machine_rules.proofs.laws.every_run_is_sequentially_consistent.Goals as goal
 
 pub returns : goal.returns
-returns c = run-sequential
+returns c = well-sequential

@@ -1,5 +1,5 @@
-use Rattle.machine_rules.proofs.RunsCoherent.{run-coherent}
+use Rattle.machine_rules.proofs.RunsCoherent.{well-coherent}
 use Rattle.machine_rules.proofs.laws.every_run_leads_to_a_coherent_state.Goals as goal
 
 pub returns : goal.returns
-returns c = run-coherent
+returns c = well-coherent

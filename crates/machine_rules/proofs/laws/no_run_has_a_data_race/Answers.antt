@@ -1,5 +1,5 @@
-use Rattle.machine_rules.proofs.RaceFree.{run-race_free}
+use Rattle.machine_rules.proofs.RaceFree.{well-race_free}
 use Rattle.machine_rules.proofs.laws.no_run_has_a_data_race.Goals as goal
 
 pub returns : goal.returns
-returns c = run-race_free
+returns c = well-race_free

@@ -10,7 +10,7 @@ use Rattle.machine_rules.specs.Runs.{IsRun}
 use Rattle.machine_rules.specs.Sound.{IsReady}
 use Rattle.run_timing.specs.Rows.{finish_in}
 use Rattle.run_timing.specs.Tracks.{last_at, sender_in}
-use Rattle.run_timing.proofs.Growing.{can-note, mails-noted, before-within, run-none, run-more, run-end}
+use Rattle.run_timing.proofs.Growing.{can-note, mails-noted, before-within, run-none, run-more, run-end, run-led}
 use Rattle.run_timing.proofs.Started.{ready-of}
 use Rattle.run_timing.proofs.Timed.{at-event}
 use Rattle.run_timing.proofs.running.note_run.Goals as goal
@@ -121,8 +121,14 @@ loop-event-preserved c =
       number = omega (arith, c.loop-event.invariant.number);
     }
 
-pub returns : goal.returns
-returns c =
+pub returns-clause-rows : goal.returns-clause-rows
+returns-clause-rows c =
     let all : c.loop-event.event-index ≡ length c.args.events.now = omega (arith, c.loop-event-test.false, c.loop-event.auto.event-index-end) in
     run-end c.args.ticks.now c.args.machine.now.state.setting c.args.events.now c.loop-event.event-index c.args.machine.now.state c.loop-event.machine.state c.loop-event.machine.made c.loop-event.tracks.last
+    c.loop-event.tracks.senders.items c.loop-event.rows c.requires.initial all c.loop-event.invariant.timed
+
+pub returns-clause-leads : goal.returns-clause-leads
+returns-clause-leads c =
+    let all : c.loop-event.event-index ≡ length c.args.events.now = omega (arith, c.loop-event-test.false, c.loop-event.auto.event-index-end) in
+    run-led c.args.ticks.now c.args.machine.now.state.setting c.args.events.now c.loop-event.event-index c.args.machine.now.state c.loop-event.machine.state c.loop-event.machine.made c.loop-event.tracks.last
     c.loop-event.tracks.senders.items c.loop-event.rows c.requires.initial all c.loop-event.invariant.timed

@@ -6,5 +6,5 @@ use Rattle.sentences.proofs.claims.claims_among.Given as goal
 -- the claims so far, and those of the lines that are left
 abbrev pub invariant-loop-line : goal.invariant-loop-line
 invariant-loop-line l =
-    l.claims ++ claims_behind l.text l.regions l.contention l.family (map (reading_of l.version l.text) (drop l.line-index l.lines))
-    ≡ claims_behind l.text l.regions l.contention 0 (map (reading_of l.version l.text) l.lines)
+    l.claims ++ claims_behind l.text l.program l.contender l.family (map (reading_of l.version l.text) (drop l.line-index l.lines))
+    ≡ claims_behind l.text l.program l.contender 0 (map (reading_of l.version l.text) l.lines)

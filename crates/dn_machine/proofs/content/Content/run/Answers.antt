@@ -16,7 +16,7 @@ advance-requires-clause-whole c =
     let C = setting c.args.context.now in
     let S = state_of C c.events.self in
     let way = c.events.invariant.way in
-    let few = way-few C c.args.seed c.events.words S c.events.log (ready-of S (length c.events.log.events) way.kept.sound) way in
+    let few = way-few C c.args.seed c.events.words S c.events.log (ready-of S (length c.events.log.events) way.kept) way in
     whole-kept S (length c.events.log.events) way.kept (omega (arith, few))
 
 pub advance-requires-clause-few : goal.advance-requires-clause-few
@@ -24,7 +24,7 @@ advance-requires-clause-few c = λ kind.
     let C = setting c.args.context.now in
     let S = state_of C c.events.self in
     let way = c.events.invariant.way in
-    let few = way-few C c.args.seed c.events.words S c.events.log (ready-of S (length c.events.log.events) way.kept.sound) way in
+    let few = way-few C c.args.seed c.events.words S c.events.log (ready-of S (length c.events.log.events) way.kept) way in
     omega (arith, few, count-within (initial_state C) c.events.log.events c.events.log.counts kind way.logged.counted)
 
 pub events-smaller : goal.events-smaller
@@ -32,7 +32,7 @@ events-smaller c =
     let C = setting c.args.context.now in
     let S = state_of C c.events.self in
     let way = c.events.invariant.way in
-    let few = way-few C c.args.seed c.events.words S c.events.log (ready-of S (length c.events.log.events) way.kept.sound) way in
+    let few = way-few C c.args.seed c.events.words S c.events.log (ready-of S (length c.events.log.events) way.kept) way in
     let came = c.advance.ensures.came (c.in_ok-advance.was ∙ ap (λ (b : Bool). Ok b) c.if-branch.true) in
     let told = came.2.told in
     let more : length c.advance.new.log.events ≡ length (c.events.log.events ++ told.event ∷ []) = ap (λ (l : Log). length l.events) came.2.noted in

@@ -19,13 +19,13 @@ note-requires-clause-fewer c =
 pub row_of-requires-clause-few : goal.row_of-requires-clause-few
 row_of-requires-clause-few c =
     let d = c.args.self.now in
-    few-among d.machine.state c.as_slice.result.now c.args.event c.in_ok-before.before c.a_machine_is_kept.ensures.sound.machine c.in_ok-before.ensures
+    few-among d.machine.state c.as_slice.result.now c.args.event c.in_ok-before.before c.a_machine_is_kept.ensures.sound.machine c.a_machine_is_kept.ensures.left.ready.program.memory c.in_ok-before.ensures
 
 pub note-requires-clause-most : goal.note-requires-clause-most
 note-requires-clause-most c =
     let d = c.args.self.now in
     let came = c.in_ok-came.ensures.came c.in-Some.row (rw c.in-Some.is refl) in
-    few-lines d.machine.state c.as_slice.result.now c.args.event c.in_ok-before.before d.event d.line c.args.on_chain c.in-Some.row c.a_machine_is_kept.ensures.sound.machine c.in_ok-before.ensures came.is
+    few-lines d.machine.state c.as_slice.result.now c.args.event c.in_ok-before.before d.event d.line c.args.on_chain c.in-Some.row c.a_machine_is_kept.ensures.sound.machine c.a_machine_is_kept.ensures.left.ready.program.memory c.in_ok-before.ensures came.is
 
 pub returns : goal.returns
 returns c =
@@ -34,6 +34,6 @@ returns c =
     let seen : IsLookBefore d.machine.state d.sent c.args.event c.in_ok-before.before =
     subst (λ (sent : List SentMail). IsLookBefore d.machine.state sent c.args.event c.in_ok-before.before) c.as_slice.ensures c.in_ok-before.ensures
     in
-    let few = few-lines d.machine.state d.sent c.args.event c.in_ok-before.before d.event d.line c.args.on_chain c.in-Some.row c.a_machine_is_kept.ensures.sound.machine seen came.is in
+    let few = few-lines d.machine.state d.sent c.args.event c.in_ok-before.before d.event d.line c.args.on_chain c.in-Some.row c.a_machine_is_kept.ensures.sound.machine c.a_machine_is_kept.ensures.left.ready.program.memory seen came.is in
     next-row d c.args.event c.in_ok-before.before c.row_of.new.machine c.in-Some.row c.args.on_chain c.note.new.self c.a_machine_is_kept.ensures.sound.machine c.requires.sent seen came c.requires.line
     few c.in_ok-note.ensures

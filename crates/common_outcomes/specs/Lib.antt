@@ -1,0 +1,6 @@
+pub mod Values
+pub mod Alone
+pub mod Phases
+pub mod Answer
+pub mod Agreeing
+pub mod Laws

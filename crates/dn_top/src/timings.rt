@@ -1,0 +1,69 @@
+//! Runs that are timed on the machine that they are of: its program is made once.
+ghost use Rattle.std.specs.Prelude.{◌≡◌, IfOk, IfErr};
+ghost use Rattle.command_words.specs.Command.{OptionsInRange};
+ghost use Rattle.dn_machine.specs.Kept.{IsInitialMachine};
+ghost use Rattle.run_report.specs.Texts.{HasChecked, IsStop, IsUnfit};
+ghost use Rattle.checked_runs.specs.Runs.{IsPrintable};
+ghost use Rattle.dn_top.specs.Runs.{IsRunFor, IsTimedRun, shape_for, with_one_worker};
+
+use crate::output::Output;
+use crate::runs::{handed_back, has_each_kind, shape_of, ticks_of, timed_text};
+use command_words::Options;
+use dn_base::Memory;
+use dn_machine::{Machine, RunRecord, a_machine_is_kept};
+use effect_checker::Checked;
+use run_report::{Stop, checked_of};
+use run_timing::time_events;
+use std::alloc::Global;
+
+/// The run of a machine at its start by the seed of the options, on this thread alone. The machine stays at its start.
+fn run_of(alloc: Global, options: &Options, machine: &Machine) -> Result<RunRecord, Memory>
+    requires { IsInitialMachine machine.now.state.setting.program (shape_for machine.now.state.setting.program options.now) options.now.fuel machine.now }
+    ensures run { IfOk result (IsRunFor machine.now.state.setting.program (with_one_worker options.now)) }
+    ensures printable { IfOk result IsPrintable }
+{
+    // for the proof alone: the machine is the opened one, sound and coherent, so that its run has all that is promised of runs
+    a_machine_is_kept(machine);
+    let run = machine.run_copy(alloc, options.seed)?;
+    // for the proof alone: the events are fewer than 2^64, and there is a count of each kind, so that the record can be printed
+    let _events = run.events.len();
+    has_each_kind(&run.counts);
+    Ok(run)
+}
+
+/// Runs a machine at its start by the seed of the options, and times the run on the same machine.
+fn time_on(alloc: Global, options: &Options, machine: &mut Machine) -> Result<Output, Memory>
+    requires limits { OptionsInRange options.now }
+    requires initial { IsInitialMachine machine.old.state.setting.program (shape_for machine.old.state.setting.program options.now) options.now.fuel machine.old }
+    ensures { IfOk result (IsTimedRun machine.old.state.setting.program (with_one_worker options.now)) }
+{
+    // for the proof alone: the machine's setting is that of its program, of which the run is one
+    a_machine_is_kept(machine);
+    let run = run_of(alloc, options, machine)?;
+    let events = run.events.as_slice();
+    let timing = time_events(alloc, machine, events, &ticks_of(options))?;
+    let text = timed_text(alloc, &run.ending, &timing)?;
+    Ok(handed_back(text, run))
+}
+
+/// Runs a checked program on the machine that the options ask for, by their seed, on this thread alone, and times the run.
+fn time_checked(alloc: Global, options: &Options, checked: Checked) -> Result<Output, Memory>
+    requires { OptionsInRange options.now }
+    ensures { IfOk result (IsTimedRun checked (with_one_worker options.now)) }
+{
+    let shape = shape_of(options, checked.program());
+    let mut machine = Machine::start(alloc, checked, shape, options.fuel)?;
+    let timed = time_on(alloc, options, &mut machine);
+    // for the prover alone: one call drops the machine, in place of the drops of all its parts at each exit
+    drop(machine);
+    timed
+}
+
+/// Runs the program of a text on this thread alone, and times the run.
+pub(crate) fn time_alone(alloc: Global, options: &Options, text: &[u8]) -> Result<Output, Stop>
+    requires { OptionsInRange options.now }
+    ensures done { IfOk result (λ out. HasChecked text.now (λ P. IsTimedRun P (with_one_worker options.now) out)) }
+    ensures stop { IfErr result (IsStop (IsUnfit text.now)) }
+{
+    Ok(time_checked(alloc, options, checked_of(alloc, text)?)?)
+}

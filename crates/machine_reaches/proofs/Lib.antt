@@ -1,0 +1,11 @@
+mod Appending
+mod Growing
+mod Choosing
+mod Waits
+mod Turns
+mod Poised
+mod PoisedWorlds
+mod FlatGrants
+mod Takers
+mod NextGrant
+mod Reaching

@@ -1,0 +1,4 @@
+pub mod Held
+pub mod Shown
+pub mod Words
+pub mod Calls

@@ -1,0 +1,9 @@
+pub mod Commands
+pub mod LimitLemmas
+pub mod ListLemmas
+pub mod LockLemmas
+pub mod MarkLemmas
+pub mod PhaseLemmas
+pub mod PrintedLemmas
+pub mod StepLemmas
+pub mod TrackLemmas

@@ -1,0 +1,33 @@
+//! The program outcomes, except its `main`: it says what every run of a text has in common, for every order in which the tasks
+//! get their locks.
+#![tactic(auto)]
+
+mod alone;
+mod answering;
+mod cells;
+mod circles;
+mod command;
+mod finding;
+mod kinds;
+mod laws;
+mod marks;
+mod phase;
+mod program;
+mod serving;
+mod status;
+mod summary;
+mod text;
+mod words;
+
+pub use answering::{Reply, answer};
+pub use command_words::WordsFault;
+pub use finding::outcomes;
+pub use laws::{
+    every_complete_run_has_what_is_printed, every_order_of_grants_has_what_is_printed,
+    without_locks_the_answer_of_the_flat_machine_is_printed,
+};
+pub use program::outcomes_program;
+pub use serving::{CommonOutcomes, outcomes_main};
+pub use status::OutcomesStatus;
+pub use text::{common_text, open_line};
+pub use words::read_words;

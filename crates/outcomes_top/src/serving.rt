@@ -1,0 +1,58 @@
+ghost use Rattle.std.specs.Prelude.{map, string_bytes};
+ghost use Rattle.std.specs.Int.{IsInRange};
+ghost use Rattle.program_outside.specs.Outside.{devices_of};
+ghost use Rattle.program_outside.specs.Serving.{Serves};
+ghost use Rattle.outcomes_top.specs.Answers.{IsOutcomesAnswer};
+ghost use Rattle.outcomes_top.specs.Command.{outcomes_fuel_of};
+ghost use Rattle.outcomes_top.specs.Status.{outcomes_told};
+
+use crate::answering::{Reply, answer};
+use crate::status::OutcomesStatus;
+use crate::words::read_words;
+use command_words::WordsFault;
+use dn_base::{Memory, Sink, Source};
+use program_outside::{Answers, Program, serve_words};
+use std::alloc::Global;
+
+/// The program outcomes: from a fuel and a text to what all runs of the text have in common.
+pub struct CommonOutcomes;
+
+impl Answers for CommonOutcomes {
+    type Asked = u32;
+
+    type Status = OutcomesStatus;
+
+    ghost can_answer = { IsInRange 1 32768 };
+
+    ghost IsAnswer = { IsOutcomesAnswer };
+
+    fn answer(alloc: Global, asked: &u32, text: &[u8]) -> Result<Reply, Memory> {
+        answer(alloc, *asked, text)
+    }
+}
+
+impl Program for CommonOutcomes {
+    ghost asked_by = { outcomes_fuel_of };
+
+    fn read_words(alloc: Global, words: &[String]) -> Result<u32, WordsFault> {
+        read_words(alloc, words)
+    }
+}
+
+/// The whole program except its `main`: answers these command words and this source, and returns how it ended.
+///
+/// The status is `Usage` if the command doesn't take the words; the source is left alone then. Otherwise the source is read to
+/// its end, or to one byte more than a document may have, and `answer` gives the answer and its status. The whole answer is
+/// made before anything is written; then it is written and flushed. The status is `ReadFault` or `WriteFault` if the source or
+/// the sink failed, and `Memory` if there wasn't enough memory. Then the sink has taken at most a prefix of the answer, and
+/// nothing if it didn't fail itself.
+pub fn outcomes_main<S: Source, K: Sink>(
+    alloc: Global,
+    words: &[String],
+    source: &mut S,
+    sink: &mut K,
+) -> OutcomesStatus
+    ensures serves { Serves outcomes_told IsOutcomesAnswer (outcomes_fuel_of (map string_bytes words.now)) (devices_of S.Source K.Sink source.old sink.old) (devices_of S.Source K.Sink source.new sink.new) result }
+{
+    serve_words::<CommonOutcomes, S, K>(alloc, words, source, sink)
+}

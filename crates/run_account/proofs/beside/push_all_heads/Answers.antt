@@ -1,0 +1,9 @@
+use Rattle.std.proofs.Common.{◌+◌, ◌-◌, arith}
+use Rattle.run_account.specs.Forms.{group_cells}
+use Rattle.run_account.proofs.Ranges.{range-step}
+use Rattle.run_account.proofs.beside.push_all_heads.Goals as goal
+
+pub loop-group-preserved : goal.loop-group-preserved
+loop-group-preserved c =
+    rw c.in_ok-push_heads.ensures
+    (range-step (group_cells c.args.program.now c.args.by) c.loop-group.out.items c.loop-group.group (c.args.groups - c.loop-group.group) (c.args.groups - (c.loop-group.group + 1)) _ (omega (arith, c.loop-group-test.true)) c.loop-group.invariant)

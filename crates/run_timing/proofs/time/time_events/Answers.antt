@@ -1,0 +1,22 @@
+use Rattle.run_timing.proofs.IsLongest.{in-step, summed}
+use Rattle.run_timing.proofs.Started.{some-time, longest-of}
+use Rattle.run_timing.proofs.time.time_events.Goals as goal
+
+pub latest-last-requires-clause-some : goal.latest-last-requires-clause-some
+latest-last-requires-clause-some c = some-time c.args.ticks.now c.args.machine.now.state c.args.events.now c.in_ok-rows.rows c.requires.ticks c.in_ok-rows.ensures.rows
+
+pub way_to-requires-clause-rows : goal.way_to-requires-clause-rows
+way_to-requires-clause-rows c = in-step c.args.ticks.now c.args.machine.now.state c.args.events.now c.in_ok-rows.rows c.in_ok-rows.ensures.rows
+
+pub way_to-requires-clause-summed : goal.way_to-requires-clause-summed
+way_to-requires-clause-summed c = summed c.args.ticks.now c.args.machine.now.state c.args.events.now c.in_ok-rows.rows c.in_ok-rows.ensures.rows
+
+pub way_to-requires-clause-within : goal.way_to-requires-clause-within
+way_to-requires-clause-within c = c.latest-last.ensures.within
+
+pub finish-total-requires : goal.finish-total-requires
+finish-total-requires c = c.latest-last.ensures.within
+
+pub returns-clause-timing : goal.returns-clause-timing
+returns-clause-timing c =
+    longest-of c.args.machine.now.state c.args.events.now c.args.ticks.now c.in_ok-rows.rows c.latest-last.result _ c.requires.few c.in_ok-rows.ensures.rows c.latest-last.ensures c.in_ok-links.ensures c.finish-total.ensures

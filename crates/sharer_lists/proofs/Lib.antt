@@ -1,0 +1,13 @@
+pub mod AddUp
+pub mod After
+pub mod Alone
+pub mod Gone
+pub mod Has
+pub mod Mails
+pub mod Placed
+pub mod Retires
+pub mod Sets
+pub mod Small
+pub mod Steps
+pub mod Weights
+pub mod Whole
