@@ -22,6 +22,8 @@ somewhere else to come from. It takes texts that assemble and check; it refuses 
     tools/reference.py page [FIRST [ROWS [NAME]]] < DOCUMENT
                                             the data of the page of a document's run, from event FIRST on (0) with ROWS events at most
                                             (4096), with the ticks 1, 10 and 5
+    tools/reference.py data [FIRST [ROWS]] < DOCUMENT
+                                            the data of a document's run for other tools, from event FIRST on (0), all events or ROWS at most
     tools/reference.py states [FIRST [ROWS]] < DOCUMENT
                                             the state before each event of the page and behind the last one, one fact a line, with an empty
                                             line behind each state

@@ -25,7 +25,7 @@ from .lists import LIST_MEASURES, lists
 from .machine import Machine, Pcg32
 from .one_memory import flat
 from .outcomes import against, outcomes, outcomes_text
-from .pages import page, state_lines, states
+from .pages import page, run_data, state_lines, states
 from .prove import proved
 from .report import STATUS, agree_with_flat, answer_text, count_text, grant_text, outcome, run_text, summary
 from .scripts import event_line, event_of, play
@@ -41,5 +41,5 @@ __all__ = [
     "STATUS", "STORE_FIVE", "StateText", "TRAP", "Task", "TaskState", "Unfit", "account", "agree_with_flat", "answer", "answer_text", "assemble", "claim",
     "against", "claim_text", "count_text", "decode", "diagnosed", "document", "event_line", "event_of", "expanded", "flat", "grant_text", "instruction_text", "judged",
     "lists", "longest", "opened", "options", "outcome", "outcomes", "outcomes_text", "page", "play", "proved", "read_case", "read_document", "replayed",
-    "rows", "run_cases", "run_text", "sections",
+    "rows", "run_cases", "run_data", "run_text", "sections",
     "state", "state_lines", "statements", "states", "summary", "ticks_by", "timed", "timing", "work_text"]

@@ -10,7 +10,7 @@ from .claims import claim, diagnosed, judged
 from .lists import lists
 from .machine import LEFT_OUT, Machine
 from .outcomes import against, outcomes_text
-from .pages import page, states
+from .pages import page, run_data, states
 from .report import STATUS, agree_with_flat, outcome, run_text
 from .scripts import event_line, play
 from .small_examples import rows
@@ -100,6 +100,11 @@ def command(words):
             print("".join("\n".join(lines) + "\n\n" for lines in states(data, first, most)), end="")
             return 0
         status, out = page(data, "".join(words[3:4]), first, most, ticks_by(1, 10, 5))
+        print(out, end="")
+        return status
+    if words[:1] == ["data"]:
+        first = int("".join(words[1:2]) or "0")
+        status, out = run_data(sys.stdin.buffer.read(), "", first, int(words[2]) if len(words) > 2 else None, ticks_by(1, 10, 5))
         print(out, end="")
         return status
     if words[:1] == ["script"]:

@@ -5,7 +5,7 @@ from .isa import instruction_text
 from .kinds import KINDS
 from .machine import Machine
 from .report import outcome
-from .texts import assemble
+from .texts import assemble, code_lines
 from .ticks import longest
 
 
@@ -219,6 +219,30 @@ def page(data, name, first, most, ticks):
     told = read_document(data)
     if isinstance(told, str):
         return 2, "refused trace %s\n" % told
+    return 0, data_text("denovo-page 2", told, name, first, most, ticks, lambda text, program, finishes: [])
+
+
+def run_data(data, name, first, most, ticks):
+    """The same of the mode data: a page's data, and what other tools need beside them."""
+    told = read_document(data)
+    if isinstance(told, str):
+        return 2, "refused trace %s\n" % told
+    last = len(told[2]) if most is None else first + most
+    return 0, data_text("denovo-data 1", told, name, first, last - first, ticks, lambda text, program, finishes: [
+        ("machine_code", value_text(program.code)), ("lines", value_text([line for line, _ in code_lines(text)])),
+        ("effects", value_text([effects_row(number, task, len(program.locks)) for number, phase in enumerate(program.phases)
+                                for _, task in sorted(phase.items())])),
+        ("finishes", value_text(finishes[first:last]))])
+
+
+def effects_row(phase, task, locks):
+    """What a task declares: the words that it may load and store, and for each lock those that it may load and store while it holds it."""
+    return [phase, task.core, intervals(task.reads), intervals(task.writes)] + [
+        [intervals(guarded.get(lock, set())) for lock in range(locks)] for guarded in (task.greads, task.gwrites)]
+
+
+def data_text(form, told, name, first, most, ticks, further):
+    """The data of a run in a form, with the fields that `further` gives before the first state."""
     sizes, text, events = told
     program = assemble(text.decode("utf-8", "replace"))
 
@@ -226,8 +250,8 @@ def page(data, name, first, most, ticks):
         for event in events:
             trace(event)
             machine.step(event)
-    timed = Machine(program, *sizes)
-    total, links = longest(timed, lambda trace: drive(timed, trace), ticks)
+    timed, finishes = Machine(program, *sizes), []
+    total, links = longest(timed, lambda trace: drive(timed, trace), ticks, finishes)
     ends = [[end[0], end[1], end[3]] + end_fields(end[2]) for end in timed.ending()[0]]
     machine = Machine(program, *sizes)
     for event in events[:first]:
@@ -237,7 +261,7 @@ def page(data, name, first, most, ticks):
         rows = [[core, task.entry, task.arg] for core, task in sorted(tasks.items())]
         phases.append('{"tasks":%s,"written":%s,"guarded":%s}' % (
             value_text(rows), value_text(intervals(written)), value_text([intervals(words) for words in guarded])))
-    parts = [("format", string(b"denovo-page 2")), ("name", string(name.encode())), ("cores", str(machine.cores)),
+    parts = [("format", string(form.encode())), ("name", string(name.encode())), ("cores", str(machine.cores)),
              ("banks", str(sizes[0])), ("sets", str(sizes[1])), ("ways", str(sizes[2])), ("fuel", str(sizes[3])),
              ("words", str(len(program.memory))),
              ("memory", value_text([[word, value] for word, value in enumerate(program.memory) if value])),
@@ -247,14 +271,15 @@ def page(data, name, first, most, ticks):
              ("outcome", string(outcome(timed.ending()[0]).encode())), ("ends", value_text(ends)),
              ("counts", value_text([timed.counts[kind] for kind in KINDS])), ("total", str(len(events))), ("first", str(first)),
              ("ticks", value_text([ticks["instr"], ticks["read-req"], ticks["go"]])), ("time", str(total)), ("links", str(len(links))),
-             ("chain", value_text([[at, finish] for at, _, finish in links if first <= at < first + most])),
+             ("chain", value_text([[at, finish] for at, _, finish in links if first <= at < first + most]))]
+    parts += further(text.decode("utf-8", "replace"), program, finishes) + [
              ("start", '{"changes":%s,"next":%s,"mails":%s}' % (
                  value_text(since(machine)),
                  value_text([machine.numbers.get(actor, 0) for actor in
                              [("core", core) for core in range(machine.cores)] + [("bank", bank) for bank in range(machine.banks)] + ["keeper"]]),
                  value_text([[actor_number(mail[0]), mail[1]] + sent_row(*mail[2:]) for mail in machine.pool])))]
     rows = ",".join("\n" + value_text(event_row(machine, event)) for event in events[first:first + most])
-    return 0, "{%s,\"events\":[%s\n]}\n" % (",".join('"%s":%s' % part for part in parts), rows)
+    return "{%s,\"events\":[%s\n]}\n" % (",".join('"%s":%s' % part for part in parts), rows)
 
 
 def states(data, first, most):

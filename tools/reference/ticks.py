@@ -36,10 +36,11 @@ def timed(machine, run, ticks):
     return ["time %d" % total, "chain %d" % len(links)] + ["link %d %s %d" % link for link in links]
 
 
-def longest(machine, run, ticks):
+def longest(machine, run, ticks, finish=None):
     """The longest chain of the events of a run: the total, and the number, kind and finish of each link. An event depends on the one
-    before it of its actor, and on its mail's sender."""
-    finish, before, kinds, last, sender, both = [], [], [], {}, {}, []
+    before it of its actor, and on its mail's sender. A list that is given gets the finish of each event."""
+    finish = [] if finish is None else finish
+    before, kinds, last, sender, both = [], [], {}, {}, []
 
     def see(event):
         if event[0] == "handle":
