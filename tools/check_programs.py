@@ -46,6 +46,7 @@ PARTS = [functools.partial(shown.states_are_those_of_the_reference, example, wor
     exported.traces_are_read_back,
     exported.waves_are_read_back,
     exported.listings_are_read_by_the_gnu_assembler,
+    exported.expectations_are_compared,
     charts.each_mode_has_its_own_options,
     settled.made_texts_have_the_outcomes_of_the_reference,
     settled.cases_have_their_outcomes,

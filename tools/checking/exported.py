@@ -1,4 +1,4 @@
-"""What other tools get of a run and of a program: the data of a run, traces for Perfetto, waves for GTKWave, sources for the GNU assembler. Each file is
+"""What other tools get of a run and of a program: what it leaves by names, the data of a run, traces for Perfetto, waves for GTKWave, sources for the GNU assembler. Each file is
 read back here and compared with what the rules say (tools/reference.py)."""
 import json
 import pathlib
@@ -175,3 +175,21 @@ def listings_are_read_by_the_gnu_assembler():
                 told = pathlib.Path(room, "out").read_bytes() if pathlib.Path(room, "out").exists() else b""
                 check(f"{example}: its words in {section}", told == b"".join(number.to_bytes(4, "little") for number in numbers), len(told))
                 pathlib.Path(room, "out").unlink(missing_ok=True)
+
+
+def expectations_are_compared():
+    """What a run leaves is compared by names, and each exit code comes."""
+    with tempfile.TemporaryDirectory() as room:
+        expected = pathlib.Path(room, "expected")
+        for example, words, lines, status, told in (
+                ("stale-copy", [], "shared = 9\nseen = 5 9 # both\n", 0, ""),
+                ("stale-copy", [], "seen = 5 8\n", 3, "seen[1]: 8 is expected, and the run left 9\n"),
+                ("stale-copy", [], "seen[1] = -1\n", 3, "seen[1]: 4294967295 (or -1) is expected, and the run left 9\n"),
+                ("crossed-locks", ["--seed", "1"], "", 3, "outcome: done is expected, and the run ended with stuck\n"),
+                ("crossed-locks", ["--seed", "1"], "outcome stuck\n", 0, ""),
+                ("conflict", [], "", 2, run(programs("denovo")[-1], text_of("conflict")).stdout.decode()),
+                ("stale-copy", [], "seen[2] = 1\n", 1, ""),
+                ("stale-copy", [], "nine\n", 1, "")):
+            expected.write_text(lines)
+            ran = run(["tools/expect", *words, f"examples/{example}.s", str(expected)])
+            check(f"expected of {example}: {lines!r}", (ran.returncode, ran.stdout.decode()) == (status, told), ran)
