@@ -188,6 +188,9 @@ def expectations_are_compared():
                 ("crossed-locks", ["--seed", "1"], "", 3, "outcome: done is expected, and the run ended with stuck\n"),
                 ("crossed-locks", ["--seed", "1"], "outcome stuck\n", 0, ""),
                 ("conflict", [], "", 2, run(programs("denovo")[-1], text_of("conflict")).stdout.decode()),
+                ("lab/sum", [], pathlib.Path("examples/lab/sum.expected").read_text(), 0, ""),
+                ("lab/sum", [], "a = 0 1\na[63] = 62\n", 3, "a[63]: 62 is expected, and the run left 63\n"),
+                ("lab/transfer", ["--seed", "2"], pathlib.Path("examples/lab/transfer.expected").read_text(), 0, ""),
                 ("stale-copy", [], "seen[2] = 1\n", 1, ""),
                 ("stale-copy", [], "nine\n", 1, "")):
             expected.write_text(lines)
