@@ -61,7 +61,7 @@ def remedies_lead_on():
             if remedy is None:
                 continue
             wanted, *edits = remedy
-            named = re.findall(r"by `(\.g?(?:reads|writes) [^`]*)`", output)
+            named = re.findall(r"line by `(\.g?(?:reads|writes) [^`]*)`", output)
             added = [edit.split(" ", 2)[2] for edit in edits if re.match(r"\d+ \+ \.g?(reads|writes) ", edit)]
             check(f"the remedy of {name} is the one that is named", not named or not added or added == named, (named, added))
             file = pathlib.Path(room, "a text.s")

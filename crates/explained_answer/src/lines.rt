@@ -1,5 +1,6 @@
 //! The lines of the answer of a run.
 ghost use Rattle.std.specs.Prelude.{◌≡◌, ◌++◌, All, OnOk, IfOk};
+ghost use Rattle.sentences.specs.Effects.{effect_lines};
 ghost use Rattle.sentences.specs.Quotes.{AreSpans};
 ghost use Rattle.explained_answer.specs.AnswerLines.{answer_line};
 ghost use Rattle.explained_answer.specs.Lines.{named_word, named_lock, which_line, declared_there, task_there, the_instruction, stands_there, instruction_there, unproven_text, stuck_text, outcome_text, sentences_behind, lines_and_sentences, IsLineOf, IsWritten, lines_in};
@@ -8,7 +9,7 @@ use crate::AnswerLine;
 use crate::holders::{holder_on, last_grants};
 use crate::reading::ReadLine;
 use dn_base::{Memory, Outcome};
-use sentences::{code_place_at, line_spans, push_ending, push_line};
+use sentences::{EffectLine, code_place_at, effect_lines, line_spans, push_ending, push_line};
 use src_text::Span;
 use std::alloc::Global;
 use text_pieces::{push, push_decimal};
@@ -146,16 +147,18 @@ fn push_sentences(
     out: &mut Vec<u8>,
     text: &[u8],
     spans: &[Span],
+    effects: &[EffectLine],
     located: &Located,
     line: AnswerLine,
     holder: Option<u32>,
 ) -> Result<(), Memory>
-    requires { AreSpans text.now spans.now }
+    requires spans { AreSpans text.now spans.now }
+    requires effects { effects.now ≡ effect_lines text.now }
     ensures { OnOk result (out.new.items ≡ out.old.items ++ sentences_behind text.now located.now holder line) }
 {
     match line {
         AnswerLine::Outcome(outcome) => push_outcome(out, outcome),
-        AnswerLine::Task(task) => push_ending(out, text, spans, located, task, holder),
+        AnswerLine::Task(task) => push_ending(out, text, spans, effects, located, task, holder),
         AnswerLine::Word { word, value: _ } => push_named_word(out, located, word),
         AnswerLine::Grant(grant) => push_named_lock(out, located, grant.lock.0),
         AnswerLine::Unbounded { phase, core, pc } => push_unproven(
@@ -180,17 +183,19 @@ fn push_explained(
     out: &mut Vec<u8>,
     text: &[u8],
     spans: &[Span],
+    effects: &[EffectLine],
     located: &Located,
     line: AnswerLine,
     written: &[u8],
     holder: Option<u32>,
 ) -> Result<(), Memory>
     requires spans { AreSpans text.now spans.now }
+    requires effects { effects.now ≡ effect_lines text.now }
     requires written { written.now ≡ answer_line line }
     ensures { OnOk result (out.new.items ≡ out.old.items ++ (answer_line line ++ sentences_behind text.now located.now holder line)) }
 {
     push(out, written)?;
-    push_sentences(out, text, spans, located, line, holder)
+    push_sentences(out, text, spans, effects, located, line, holder)
 }
 
 /// Explains the lines of an answer, one after the other.
@@ -207,6 +212,8 @@ pub(crate) fn explained_lines(
     let last = last_grants(alloc, located, lines)?;
     let found = line_spans(alloc, text)?;
     let spans = found.as_slice();
+    let declared = effect_lines(alloc, text)?;
+    let effects = declared.as_slice();
     let mut out = Vec::new(alloc);
     for read in lines {
         let holder = holder_on(last.as_slice(), read.line);
@@ -214,6 +221,7 @@ pub(crate) fn explained_lines(
             &mut out,
             text,
             spans,
+            effects,
             located,
             read.line,
             read.written,

@@ -1,5 +1,6 @@
 pub mod CauseLemmas
 pub mod ClaimLemmas
+pub mod EffectLemmas
 pub mod NameLemmas
 pub mod OriginLemmas
 pub mod OthersLemmas

@@ -62,20 +62,20 @@ use Rattle.sentences.proofs.ClaimLemmas.{claims-words}
 
 -- ---- items of lists
 
-among-cons : {X : Type 0} (x : X) (xs : List X) (y : X) → IsAmong (x ∷ xs) y → (y ≡ x) ⊎ IsAmong xs y
+pub among-cons : {X : Type 0} (x : X) (xs : List X) (y : X) → IsAmong (x ∷ xs) y → (y ≡ x) ⊎ IsAmong xs y
 among-cons x xs y (zero, rest) = inl rest.1
 among-cons x xs y (suc i, rest) = let within = rest.0 in inr (i, (omega (arith, within), rest.1))
 
-among-head : {X : Type 0} (x : X) (xs : List X) → IsAmong (x ∷ xs) x
+pub among-head : {X : Type 0} (x : X) (xs : List X) → IsAmong (x ∷ xs) x
 among-head x xs = (0, (omega arith, refl))
 
-among-tail : {X : Type 0} (x : X) (xs : List X) (y : X) → IsAmong xs y → IsAmong (x ∷ xs) y
+pub among-tail : {X : Type 0} (x : X) (xs : List X) (y : X) → IsAmong xs y → IsAmong (x ∷ xs) y
 among-tail x xs y h = let within = h.1.0 in (suc h.0, (omega (arith, within), h.1.1))
 
-among-none : {X : Type 0} (y : X) → IsAmong [] y → ⊥
+pub among-none : {X : Type 0} (y : X) → IsAmong [] y → ⊥
 among-none y h = let within = h.1.0 in omega (arith, within)
 
-among-either : {X : Type 0} (xs ys : List X) (y : X) → IsAmong (xs ++ ys) y → IsAmong xs y ⊎ IsAmong ys y
+pub among-either : {X : Type 0} (xs ys : List X) (y : X) → IsAmong (xs ++ ys) y → IsAmong xs y ⊎ IsAmong ys y
 among-either [] ys y h = inr h
 among-either (x ∷ xs) ys y h =
     ⊎_elim (λ (e : y ≡ x). inl (subst (IsAmong (x ∷ xs)) (sym e) (among-head x xs)))
@@ -83,14 +83,14 @@ among-either (x ∷ xs) ys y h =
     ⊎_elim (λ (a : IsAmong xs y). inl (among-tail x xs y a)) (λ (b : IsAmong ys y). inr b) (among-either xs ys y k))
     (among-cons x (xs ++ ys) y h)
 
-among-left : {X : Type 0} (xs ys : List X) (y : X) → IsAmong xs y → IsAmong (xs ++ ys) y
+pub among-left : {X : Type 0} (xs ys : List X) (y : X) → IsAmong xs y → IsAmong (xs ++ ys) y
 among-left [] ys y h = absurd (among-none y h)
 among-left (x ∷ xs) ys y h =
     ⊎_elim (λ (e : y ≡ x). subst (IsAmong (x ∷ (xs ++ ys))) (sym e) (among-head x (xs ++ ys)))
     (λ (k : IsAmong xs y). among-tail x (xs ++ ys) y (among-left xs ys y k))
     (among-cons x xs y h)
 
-among-right : {X : Type 0} (xs ys : List X) (y : X) → IsAmong ys y → IsAmong (xs ++ ys) y
+pub among-right : {X : Type 0} (xs ys : List X) (y : X) → IsAmong ys y → IsAmong (xs ++ ys) y
 among-right [] ys y h = h
 among-right (x ∷ xs) ys y h = among-tail x (xs ++ ys) y (among-right xs ys y h)
 

@@ -130,12 +130,12 @@ unfoldable pub remedy_text : TrapKind → List ℕ
 remedy_text k = indent ++ remedy k ++ newline
 
 -- how to mend a trap of the task of this core in this phase; and before that, where a load or store isn't allowed, why
-abbrev pub mending_text : Located → ℕ → ℕ → TrapKind → Option Access → ℕ → List ℕ
-mending_text l phase core kind.TheVariants.Outside (Some a) value = outside_sentences l phase core a value
-mending_text l phase core k a value = remedy_text k
+abbrev pub mending_text : List ℕ → Located → ℕ → ℕ → TrapKind → Option Access → ℕ → List ℕ
+mending_text text l phase core kind.TheVariants.Outside (Some a) value = outside_sentences text l phase core a value
+mending_text text l phase core k a value = remedy_text k
 
-abbrev pub trap_sentences : Located → ℕ → ℕ → TrapKind → Option Access → ℕ → List ℕ
-trap_sentences l phase core k a value = trap_text l.program k a value ++ mending_text l phase core k a value
+abbrev pub trap_sentences : List ℕ → Located → ℕ → ℕ → TrapKind → Option Access → ℕ → List ℕ
+trap_sentences text l phase core k a value = trap_text l.program k a value ++ mending_text text l phase core k a value
 
 abbrev pub fuel_remedy : ℕ → List ℕ
 fuel_remedy retired =
@@ -175,7 +175,7 @@ end_sentences text l holder phase core retired shown.TheVariants.Finished = []
 end_sentences text l holder phase core retired shown.TheVariants.Fuel = task_text l.places phase core ++ fuel_text retired
 end_sentences text l holder phase core retired (shown.TheVariants.Trap k pc value) =
     task_text l.places phase core ++ line_at text (code_place_at l.places pc)
-    ++ trap_sentences l phase core k (instruction_access l.program pc) value
+    ++ trap_sentences text l phase core k (instruction_access l.program pc) value
 end_sentences text l holder phase core retired (shown.TheVariants.Waits lock) =
     task_text l.places phase core ++ wait_text l.program lock.0 ++ holder_text l.places phase holder ++ wait_remedy
 

@@ -1,6 +1,7 @@
 pub mod Causes
 pub mod Claims
 pub mod Conflicts
+pub mod Effects
 pub mod Elsewhere
 pub mod Endings
 pub mod Examples

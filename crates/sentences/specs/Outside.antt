@@ -1,6 +1,6 @@
 -- The sentences on a load or store that a task may not do: where its address is, what the task and the other tasks of its phase
 -- declare of the word, and how to mend it. An effect that mends it is written out.
-use Rattle.std.specs.Prelude.{ℕ, ◌+◌, Bool, bytes_eq, take, if◌then◌else◌, List, [], ◌++◌, Option, Some, None, codes, slice_get}
+use Rattle.std.specs.Prelude.{ℕ, ◌+◌, Bool, bytes_eq, take, if◌then◌else◌, List, [], ◌++◌, Option, Some, None, codes, find, slice_get}
 use Rattle.std.specs.Fmt.{decimal}
 use Rattle.text_pieces.specs.Pieces.{newline}
 use Rattle.region_table.specs.declared.declared.TaskDecl.{TaskDecl}
@@ -8,6 +8,7 @@ use Rattle.region_table.specs.Program.{ProgramParts}
 use Rattle.region_table.specs.Tasks.{declared}
 use Rattle.text_places.specs.declared.places.Located.{Located}
 use Rattle.text_places.specs.declared.words.WordPlace.{WordPlace}
+use Rattle.text_places.specs.Words.{is_task_of}
 use Rattle.text_places.specs.Texts.{lock_text}
 use Rattle.sentences.specs.declared.sites.Site.{Site}
 use Rattle.sentences.specs.declared.sites.Site.TheVariants.{Within, Before, Behind, Nowhere}
@@ -18,6 +19,7 @@ use Rattle.sentences.specs.declared.uses.OwnUse.TheVariants.{Free, Guarded, Read
 use Rattle.sentences.specs.declared.others_use.Others.{Others}
 use Rattle.sentences.specs.declared.others_use.Others.TheVariants.{Guarding, Contending, Reading, Nobody}
 use Rattle.sentences.specs.Conflicts.{core_text}
+use Rattle.sentences.specs.Effects.{declared_text}
 use Rattle.sentences.specs.Sites.{site_of, name_of, len_of, lock_name}
 use Rattle.sentences.specs.Uses.{own_use, others_in}
 
@@ -130,9 +132,10 @@ own_text l phase core a w place (ReadUnder lock) =
 own_text l phase core a w place ReadOnly = read_only_text ++ others_text l phase a place (others_in l.program phase a core w)
 own_text l phase core a w place Undeclared = undeclared_text ++ others_text l phase a place (others_in l.program phase a core w)
 
-abbrev pub word_sentences : Located → ℕ → ℕ → Access → ℕ → WordPlace → Option TaskDecl → List ℕ
-word_sentences l phase core a w place None = []
-word_sentences l phase core a w place (Some d) = own_text l phase core a w place (own_use a d.effects w)
+abbrev pub word_sentences : List ℕ → Located → ℕ → ℕ → Access → ℕ → WordPlace → Option TaskDecl → List ℕ
+word_sentences text l phase core a w place None = []
+word_sentences text l phase core a w place (Some d) =
+    declared_text text l.program (find (is_task_of phase core) l.places.tasks) place.region ++ own_text l phase core a w place (own_use a d.effects w)
 
 -- ---- where the address is, if no region has it
 
@@ -181,11 +184,12 @@ abbrev pub region_said : ProgramParts → ℕ → List ℕ
 region_said p region = stack_if (is_stack (name_of (slice_get p.regions region)))
 
 -- what is said of an access of an address that the task of this core in this phase may not do
-abbrev pub site_sentences : Located → ℕ → ℕ → Access → Site → List ℕ
-site_sentences l phase core a (Within w place) = word_sentences l phase core a w place (declared l.program phase core) ++ region_said l.program place.region
-site_sentences l phase core a (Before bytes) = before_text l.program bytes ++ region_said l.program 0
-site_sentences l phase core a (Behind region index) = behind_text l region index
-site_sentences l phase core a Nowhere = nowhere_text
+abbrev pub site_sentences : List ℕ → Located → ℕ → ℕ → Access → Site → List ℕ
+site_sentences text l phase core a (Within w place) =
+    word_sentences text l phase core a w place (declared l.program phase core) ++ region_said l.program place.region
+site_sentences text l phase core a (Before bytes) = before_text l.program bytes ++ region_said l.program 0
+site_sentences text l phase core a (Behind region index) = behind_text l region index
+site_sentences text l phase core a Nowhere = nowhere_text
 
-abbrev pub outside_sentences : Located → ℕ → ℕ → Access → ℕ → List ℕ
-outside_sentences l phase core a address = site_sentences l phase core a (site_of l.program.regions address)
+abbrev pub outside_sentences : List ℕ → Located → ℕ → ℕ → Access → ℕ → List ℕ
+outside_sentences text l phase core a address = site_sentences text l phase core a (site_of l.program.regions address)

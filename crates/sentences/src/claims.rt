@@ -47,7 +47,7 @@ pub(crate) fn contender_at(
 }
 
 /// By how much the interval of an effect is moved for the family's task of this number.
-fn moved_for(part: u32, step: i64) -> i128
+pub(crate) fn moved_for(part: u32, step: i64) -> i128
     ensures { result ≡ pos part *ℤ step }
 {
     i128::from(part) * i128::from(step)
@@ -66,7 +66,7 @@ fn interval_has(lo: i64, hi: i64, index: u32) -> bool
     lo <= i64::from(index) && i64::from(index) < hi
 }
 
-fn moved_to(bound: i64, moved: i128) -> i128
+pub(crate) fn moved_to(bound: i64, moved: i128) -> i128
     requires low { neg_ℤ (pos 65536) ≤ℤ moved }
     requires high { moved <ℤ pos 65537 }
     ensures { result ≡ bound +ℤ moved }
@@ -113,7 +113,7 @@ fn gives_to(family: u32, extent: Extent, index: u32, task: Option<TaskPlace>) ->
 }
 
 /// The bytes of a token.
-fn token_bytes(text: &[u8], token: Token) -> &[u8]
+pub(crate) fn token_bytes(text: &[u8], token: Token) -> &[u8]
     ensures { result.now ≡ bytes_of text.now token }
 {
     let (start, end) = (token.start as usize, token.end as usize);
@@ -131,7 +131,7 @@ fn is_spelled(text: &[u8], token: Token, name: &[u8]) -> bool
 }
 
 /// Whether a token is the name of the region of this number.
-fn names_region(text: &[u8], token: Token, regions: &[Region], number: usize) -> bool
+pub(crate) fn names_region(text: &[u8], token: Token, regions: &[Region], number: usize) -> bool
     ensures { result ≡ names_region text.now token (slice_get regions.now number) }
 {
     match regions.get(number) {
@@ -231,7 +231,7 @@ fn family_by(family: u32, line: u32, statement: &Statement) -> u32
 }
 
 /// The line of the current family after one more line; 0 if there is none.
-fn family_behind(family: u32, reading: &Reading) -> u32
+pub(crate) fn family_behind(family: u32, reading: &Reading) -> u32
     ensures { result ≡ family_behind family reading.now }
 {
     match reading {

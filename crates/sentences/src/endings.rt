@@ -1,8 +1,10 @@
 //! Sentences on how a task stands at the end of a run.
 ghost use Rattle.std.specs.Prelude.{◌≡◌, ◌++◌, OnOk};
 ghost use Rattle.sentences.specs.Quotes.{AreSpans};
+ghost use Rattle.sentences.specs.Effects.{effect_lines};
 ghost use Rattle.sentences.specs.Endings.{which_line, declares_word, the_task, declared_by_line, declared_text, task_text, code_place_at, stands_at, line_at, fuel_remedy, out_of_fuel, fuel_text, not_given_up, holds_it, holder_untold, holder_text, wait_remedy, wait_text, ending_text};
 
+use crate::effects::EffectLine;
 use crate::quotes::push_line;
 use crate::traps::push_trap;
 use dn_base::Memory;
@@ -203,7 +205,7 @@ fn push_wait_remedy(out: &mut Vec<u8>) -> Result<(), Memory>
 
 /// Appends the sentences on how a task of the text's program stands at the end of a run; nothing if it has finished.
 ///
-/// `spans` are the places of the text's lines. `holder` is the core whose task holds the lock that this task waits for; None if that isn't known, or the task doesn't wait.
+/// `spans` are the places of the text's lines, and `effects` those of them that have effects. `holder` is the core whose task holds the lock that this task waits for; None if that isn't known, or the task doesn't wait.
 ///
 /// # Errors
 /// `Memory` if there is no room; the text may have a part of the sentences then.
@@ -211,11 +213,13 @@ pub fn push_ending(
     out: &mut Vec<u8>,
     text: &[u8],
     spans: &[Span],
+    effects: &[EffectLine],
     located: &Located,
     task: TaskEnd,
     holder: Option<u32>,
 ) -> Result<(), Memory>
-    requires { AreSpans text.now spans.now }
+    requires spans { AreSpans text.now spans.now }
+    requires effects { effects.now ≡ effect_lines text.now }
     ensures { OnOk result (out.new.items ≡ out.old.items ++ ending_text text.now located.now holder task) }
 {
     let (phase, core) = (task.phase.0, task.core.0);
@@ -228,7 +232,7 @@ pub fn push_ending(
         EndShown::Trap { kind, pc, value } => {
             push_task(out, &located.places, phase, core)?;
             push_end(out, text, spans, code_place_at(&located.places, pc))?;
-            push_trap(out, located, (phase, core), kind, pc, value)
+            push_trap(out, text, effects, located, (phase, core), kind, pc, value)
         }
         EndShown::Waits { lock } => {
             push_task(out, &located.places, phase, core)?;

@@ -1,5 +1,5 @@
 //! Laws: what holds of effects and claims. A law is a function without effect; its contract states the theorem.
-ghost use Rattle.std.specs.Prelude.{◌≡◌, ◌≢◌, ◌+◌, ◌<◌, ◌+ℤ◌, ℕ, ℤ, Option, None, not, slice_get, pos, int_le, int_lt, true, false, List, Some, Ok};
+ghost use Rattle.std.specs.Prelude.{◌≡◌, ◌≢◌, ◌+◌, ◌<◌, ◌≤◌, ◌&&◌, nat_le, nat_lt, ◌+ℤ◌, ℕ, ℤ, Option, None, not, slice_get, pos, int_le, int_lt, true, false, List, Some, Ok};
 ghost use Rattle.std.specs.List.{IsAmong};
 ghost use Rattle.region_table.specs.Program.{ProgramParts};
 ghost use Rattle.effect_checker.specs.declared.fault.CheckFault.{CheckFault};
@@ -45,7 +45,9 @@ ghost use Rattle.sentences.specs.Known.{known_in};
 ghost use Rattle.sentences.specs.Origins.{IsRowOfLine};
 ghost use Rattle.sentences.specs.Ranges.{tested_number, has_row, IsMeantAs};
 ghost use Rattle.sentences.specs.Causes.{IsUndeclaredBy, HasTask, UsesPlainlySo, IsPlainlyFree, DeclaresPlainly, DeclaresUnder};
-ghost use Rattle.sentences.specs.Claims.{extent_has, claim_has, claims_in};
+ghost use Rattle.sentences.specs.Claims.{extent_has, claim_has, claims_in, uses_so};
+ghost use Rattle.sentences.specs.declared.effects.EffectLine.{EffectLine as EffectLineOf};
+ghost use Rattle.sentences.specs.Effects.{bounds_of, declared_by};
 ghost use Rattle.sentences.specs.TableClaims.{IsTaskOf, IsClaimedOn, conflict_word};
 ghost use Rattle.sentences.specs.Conflicts.{first_contender, second_contender};
 
@@ -69,6 +71,24 @@ pub fn a_quoted_effect_claims_the_word_for_its_task()
         → first_contender l f ≡ Some c → IsAmong (claims_in text l.program c) line → IsClaimedOn text l.program.locks c (conflict_word f) line }
     ensures second { (text : List ℕ) (l : Located) (f : CheckFault) (c : ContenderOf) (line : ℕ) → source text ≡ Ok l.program → l.places ≡ text_places text
         → second_contender l f ≡ Some c → IsAmong (claims_in text l.program c) line → IsClaimedOn text l.program.locks c (conflict_word f) line }
+{}
+
+/// The lines of which it is said what they declare for a task are those of the task's effects on the region, and they declare what
+/// is said.
+///
+/// The indices from the first to the last that are said are those that the effect gives the task (`words`). For each word that it
+/// gives the task, a line that is told gives the tables of the language's definition a claim of the word for the task, in each
+/// way in which its effect is (`told`). Each line that claims a word of the region for the task is one of these lines: it is told,
+/// or counted as one more (`all`).
+pub fn the_told_lines_are_those_of_the_task()
+    ensures words { (e : Extent) (part len index : ℕ) → index < len → len ≤ 65536
+        → extent_has e part index ≡ (nat_le (bounds_of e part len).low index && nat_lt index (bounds_of e part len).high) }
+    ensures told { (text : List ℕ) (program : ProgramParts) (t : TaskPlaceOf) (c : ContenderOf) (word : ℕ) (x : EffectLineOf) → source text ≡ Ok program → IsAmong (text_places text).tasks t
+        → c.task ≡ Some t → IsWordPlace program.regions word c.place → IsAmong (declared_by text program t c.place.region) x
+        → extent_has x.effect.extent t.part c.place.index ≡ true → uses_so text program.locks c.way x.effect.writes x.effect.lock ≡ true
+        → IsClaimedOn text program.locks c word x.line }
+    ensures all { (text : List ℕ) (program : ProgramParts) (t : TaskPlaceOf) (c : ContenderOf) (line : ℕ) → c.task ≡ Some t → IsAmong (claims_in text program c) line
+        → (x : EffectLineOf) × IsAmong (declared_by text program t c.place.region) x × (x.line ≡ line) × (extent_has x.effect.extent t.part c.place.index ≡ true) }
 {}
 
 /// What is said of a task's own effects, where it may not access a word, holds by the rules of access.

@@ -1,9 +1,11 @@
 //! Sentences on a load or store that a task may not do.
 ghost use Rattle.std.specs.Prelude.{◌≡◌, ◌++◌, OnOk, slice_get};
 ghost use Rattle.region_table.specs.Tasks.{declared};
+ghost use Rattle.sentences.specs.Effects.{effect_lines};
 ghost use Rattle.sentences.specs.Outside.{operands_of, plain_effect, guarded_effect, declare_it, or_mended, plain_remedy, guarded_remedy, held_remedy, acquire_remedy, apart_remedy, guarding_text, same_phase, used_text, reading_text, nobody_text, others_text, free_text, undeclared_text, read_only_text, declares_it_under, under_text, read_under_text, own_text, word_sentences, nowhere_text, first_region, further_on, before_text, region_line, last_region, counted, lacked_word, behind_text, is_stack, stack_text, stack_if, region_said, site_sentences, outside_sentences};
 
 use crate::conflicts::push_core;
+use crate::effects::{EffectLine, push_declared_effects};
 use crate::marks::first;
 use crate::others_use::{Others, others_in};
 use crate::sites::{Site, len_of, lock_name, name_of, site_of};
@@ -334,10 +336,13 @@ fn push_own(
 /// Adds what is said of a word, by what its task declares.
 fn push_word_sentences(
     out: &mut Vec<u8>,
+    text: &[u8],
+    effects: &[EffectLine],
     located: &Located,
     accessed: Accessed,
 ) -> Result<(), Memory>
-    ensures { OnOk result (out.new.items ≡ out.old.items ++ word_sentences located.now accessed.phase accessed.core accessed.access accessed.word accessed.place
+    requires { effects.now ≡ effect_lines text.now }
+    ensures { OnOk result (out.new.items ≡ out.old.items ++ word_sentences text.now located.now accessed.phase accessed.core accessed.access accessed.word accessed.place
         (declared located.now.program accessed.phase accessed.core)) }
 {
     match located
@@ -345,6 +350,9 @@ fn push_word_sentences(
         .task(PhaseId(accessed.phase), CoreId(accessed.core))
     {
         Some(task) => {
+            let place = located.places.task(accessed.phase as usize, accessed.core);
+            let region = accessed.place.region;
+            push_declared_effects(out, text, &located.program, place, region, effects)?;
             let own = own_use(accessed.access, &task.effects, accessed.word);
             push_own(out, located, accessed, own)
         }
@@ -479,13 +487,16 @@ fn push_region_said(out: &mut Vec<u8>, program: &Program, region: usize) -> Resu
 
 fn push_site(
     out: &mut Vec<u8>,
+    text: &[u8],
+    effects: &[EffectLine],
     located: &Located,
     phase: u32,
     core: u32,
     access: Access,
     site: Site,
 ) -> Result<(), Memory>
-    ensures { OnOk result (out.new.items ≡ out.old.items ++ site_sentences located.now phase core access site) }
+    requires { effects.now ≡ effect_lines text.now }
+    ensures { OnOk result (out.new.items ≡ out.old.items ++ site_sentences text.now located.now phase core access site) }
 {
     match site {
         Site::Within { word, place } => {
@@ -496,7 +507,7 @@ fn push_site(
                 word,
                 place,
             };
-            push_word_sentences(out, located, accessed)?;
+            push_word_sentences(out, text, effects, located, accessed)?;
             push_region_said(out, &located.program, place.region)
         }
         Site::Before { bytes } => {
@@ -511,14 +522,16 @@ fn push_site(
 /// Adds why the task of a core in a phase may not access the address so, and how to mend it.
 pub(crate) fn push_outside(
     out: &mut Vec<u8>,
+    text: &[u8],
+    effects: &[EffectLine],
     located: &Located,
-    phase: u32,
-    core: u32,
+    task: (u32, u32),
     access: Access,
     address: u32,
 ) -> Result<(), Memory>
-    ensures { OnOk result (out.new.items ≡ out.old.items ++ outside_sentences located.now phase core access address) }
+    requires { effects.now ≡ effect_lines text.now }
+    ensures { OnOk result (out.new.items ≡ out.old.items ++ outside_sentences text.now located.now task.0 task.1 access address) }
 {
     let site = site_of(&located.program, address);
-    push_site(out, located, phase, core, access, site)
+    push_site(out, text, effects, located, task.0, task.1, access, site)
 }

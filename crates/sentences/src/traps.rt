@@ -1,8 +1,10 @@
 //! Sentences on traps.
 ghost use Rattle.std.specs.Prelude.{◌≡◌, ◌++◌, OnOk};
+ghost use Rattle.sentences.specs.Effects.{effect_lines};
 ghost use Rattle.sentences.specs.Endings.{accesses_at, said_before, said_behind, remedy, data_text, value_text, trap_text, remedy_text, mending_text, trap_sentences};
 ghost use Rattle.sentences.specs.Uses.{instruction_access};
 
+use crate::effects::EffectLine;
 use crate::outside::push_outside;
 use crate::uses::{Access, instruction_access};
 use dn_base::Memory;
@@ -145,17 +147,20 @@ fn push_remedy(out: &mut Vec<u8>, kind: TrapKind) -> Result<(), Memory>
 /// Adds how to mend a trap; and before that, where a load or store isn't allowed, why.
 fn push_mending(
     out: &mut Vec<u8>,
+    text: &[u8],
+    effects: &[EffectLine],
     located: &Located,
     task: (u32, u32),
     kind: TrapKind,
     access: Option<Access>,
     value: u32,
 ) -> Result<(), Memory>
-    ensures { OnOk result (out.new.items ≡ out.old.items ++ mending_text located.now task.0 task.1 kind access value) }
+    requires { effects.now ≡ effect_lines text.now }
+    ensures { OnOk result (out.new.items ≡ out.old.items ++ mending_text text.now located.now task.0 task.1 kind access value) }
 {
     match (kind, access) {
         (TrapKind::Outside, Some(access)) => {
-            push_outside(out, located, task.0, task.1, access, value)
+            push_outside(out, text, effects, located, task, access, value)
         }
         _ => push_remedy(out, kind),
     }
@@ -164,15 +169,18 @@ fn push_mending(
 /// Adds why the task of this phase and core trapped at an address, and how to mend it.
 pub(crate) fn push_trap(
     out: &mut Vec<u8>,
+    text: &[u8],
+    effects: &[EffectLine],
     located: &Located,
     task: (u32, u32),
     kind: TrapKind,
     pc: u32,
     value: u32,
 ) -> Result<(), Memory>
-    ensures { OnOk result (out.new.items ≡ out.old.items ++ trap_sentences located.now task.0 task.1 kind (instruction_access located.now.program pc) value) }
+    requires { effects.now ≡ effect_lines text.now }
+    ensures { OnOk result (out.new.items ≡ out.old.items ++ trap_sentences text.now located.now task.0 task.1 kind (instruction_access located.now.program pc) value) }
 {
     let access = instruction_access(&located.program, pc);
     push_trap_line(out, &located.program, kind, access, value)?;
-    push_mending(out, located, task, kind, access, value)
+    push_mending(out, text, effects, located, task, kind, access, value)
 }
