@@ -1,6 +1,6 @@
 //! The lines of the answer of a run.
 ghost use Rattle.std.specs.Prelude.{◌≡◌, ◌++◌, All, OnOk, IfOk};
-ghost use Rattle.sentences.specs.Effects.{effect_lines};
+ghost use Rattle.sentences.specs.Effects.{task_effects};
 ghost use Rattle.sentences.specs.Quotes.{AreSpans};
 ghost use Rattle.explained_answer.specs.AnswerLines.{answer_line};
 ghost use Rattle.explained_answer.specs.Lines.{named_word, named_lock, which_line, declared_there, task_there, the_instruction, stands_there, instruction_there, unproven_text, stuck_text, outcome_text, sentences_behind, lines_and_sentences, IsLineOf, IsWritten, lines_in};
@@ -153,7 +153,7 @@ fn push_sentences(
     holder: Option<u32>,
 ) -> Result<(), Memory>
     requires spans { AreSpans text.now spans.now }
-    requires effects { effects.now ≡ effect_lines text.now }
+    requires effects { effects.now ≡ task_effects text.now }
     ensures { OnOk result (out.new.items ≡ out.old.items ++ sentences_behind text.now located.now holder line) }
 {
     match line {
@@ -190,7 +190,7 @@ fn push_explained(
     holder: Option<u32>,
 ) -> Result<(), Memory>
     requires spans { AreSpans text.now spans.now }
-    requires effects { effects.now ≡ effect_lines text.now }
+    requires effects { effects.now ≡ task_effects text.now }
     requires written { written.now ≡ answer_line line }
     ensures { OnOk result (out.new.items ≡ out.old.items ++ (answer_line line ++ sentences_behind text.now located.now holder line)) }
 {

@@ -16,7 +16,7 @@ use Rattle.std.specs.Prelude.{slice_get}
 use Rattle.sentences.specs.declared.claims.Contender.{Contender}
 use Rattle.sentences.specs.declared.effects.EffectLine.{EffectLine}
 use Rattle.sentences.specs.Claims.{extent_has, gives_to, names_region, uses_so, effect_claims, statement_claims, line_if, family_by, claims_behind, claims_of, claims_in}
-use Rattle.sentences.specs.Effects.{effect_on, effects_behind, effects_of, effect_lines, is_of_task, declared_by, bound_of, between, bounds_of}
+use Rattle.sentences.specs.Effects.{effect_on, effects_behind, readings_effects, task_effects, is_of_task, told_of_region, bound_of, interval_bounds, bounds_of}
 use Rattle.sentences.proofs.TableClaims.{among-cons, among-head, among-tail, among-none, among-either, among-left, among-right}
 
 -- ---- the words of an effect
@@ -49,7 +49,7 @@ high-words : (z : ℤ) (i : ℕ) → i ≤ 65536 → int_lt (pos i) z ≡ nat_lt
 high-words (pos a) i few = high-bound a i few
 high-words (negsuc a) i few = sym (le-ltb i 0 (omega arith))
 
-between-words : (lo hi : ℤ) (i : ℕ) → i ≤ 65536 → is_within lo hi (pos i) ≡ (nat_le (between lo hi).low i && nat_lt i (between lo hi).high)
+between-words : (lo hi : ℤ) (i : ℕ) → i ≤ 65536 → is_within lo hi (pos i) ≡ (nat_le (interval_bounds lo hi).low i && nat_lt i (interval_bounds lo hi).high)
 between-words lo hi i few =
     ap (λ (b : Bool). b && int_lt (pos i) hi) (low-words lo i few) ∙ ap (λ (b : Bool). nat_le (bound_of lo) i && b) (high-words hi i few)
 
@@ -65,8 +65,8 @@ bounds-words (extent.TheVariants.Stepped lo hi step) part len i inside few = by_
   m = pos part *ℤ step
 
   by_move : (b : Bool) → (b && is_within (lo +ℤ m) (hi +ℤ m) (pos i))
-      ≡ (nat_le (if b then between (lo +ℤ m) (hi +ℤ m) else record { low = 0; high = 0 }).low i
-      && nat_lt i (if b then between (lo +ℤ m) (hi +ℤ m) else record { low = 0; high = 0 }).high)
+      ≡ (nat_le (if b then interval_bounds (lo +ℤ m) (hi +ℤ m) else record { low = 0; high = 0 }).low i
+      && nat_lt i (if b then interval_bounds (lo +ℤ m) (hi +ℤ m) else record { low = 0; high = 0 }).high)
   by_move true = between-words (lo +ℤ m) (hi +ℤ m) i (omega (arith, inside, few))
   by_move false = none-within i
 
@@ -147,20 +147,20 @@ module _ (text : List ℕ) (P : ProgramParts) (t : TaskPlace) (c : Contender) (o
           among-right (line_if (statement_claims text P c family s.statement) s.line) (claims_behind text P c next rs) x.line (walk rs next behind))
           (among-either (effect_on family s.line s.statement) (effects_behind next rs) x h)
 
-      in-all : IsAmong (effects_of text) x → IsAmong (claims_of text P c) x.line
-      unfolding effects_of claims_of
+      in-all : IsAmong (readings_effects text) x → IsAmong (claims_of text P c) x.line
+      unfolding readings_effects claims_of
       in-all h = walk (readings text) 0 h
 
-      in-text : IsAmong (effect_lines text) x → IsAmong (claims_in text P c) x.line
+      in-text : IsAmong (task_effects text) x → IsAmong (claims_in text P c) x.line
       in-text h = by_size (nat_lt 1048576 (length text)) h where
-        by_size : (b : Bool) → IsAmong (if b then [] else effects_of text) x → IsAmong (if b then [] else claims_of text P c) x.line
+        by_size : (b : Bool) → IsAmong (if b then [] else readings_effects text) x → IsAmong (if b then [] else claims_of text P c) x.line
         by_size true h = absurd (among-none x h)
         by_size false h = in-all h
 
-  pub told-claims : (x : EffectLine) → IsAmong (declared_by text P t c.place.region) x → extent_has x.effect.extent t.part c.place.index ≡ true
+  pub told-claims : (x : EffectLine) → IsAmong (told_of_region text P t c.place.region) x → extent_has x.effect.extent t.part c.place.index ≡ true
       → uses_so text P.locks c.way x.effect.writes x.effect.lock ≡ true → IsAmong (claims_in text P c) x.line
   told-claims x told has so =
-      let found = passed (is_of_task text P t c.place.region) (effect_lines text) x told in
+      let found = passed (is_of_task text P t c.place.region) (task_effects text) x told in
       let parts = and_parts (x.family == t.line) (named x) found.1 in
       in-text x (eqb-true x.family t.line parts.0) parts.1 has so found.0
 
@@ -205,18 +205,18 @@ module _ (text : List ℕ) (P : ProgramParts) (t : TaskPlace) (c : Contender) (o
       (told.0, among-right (effect_on family s.line s.statement) (effects_behind next rs) told.0 told.1, told.2, told.3, told.4))
       (among-either (line_if (statement_claims text P c family s.statement) s.line) (claims_behind text P c next rs) n h)
 
-  told-of-all : (n : ℕ) → IsAmong (claims_of text P c) n → IsTold (effects_of text) n
-  unfolding effects_of claims_of
+  told-of-all : (n : ℕ) → IsAmong (claims_of text P c) n → IsTold (readings_effects text) n
+  unfolding readings_effects claims_of
   told-of-all n h = told-among (readings text) 0 n h
 
-  told-in : (n : ℕ) → IsAmong (claims_in text P c) n → IsTold (effect_lines text) n
+  told-in : (n : ℕ) → IsAmong (claims_in text P c) n → IsTold (task_effects text) n
   told-in n h = by_size (nat_lt 1048576 (length text)) h where
-    by_size : (b : Bool) → IsAmong (if b then [] else claims_of text P c) n → IsTold (if b then [] else effects_of text) n
+    by_size : (b : Bool) → IsAmong (if b then [] else claims_of text P c) n → IsTold (if b then [] else readings_effects text) n
     by_size true h = absurd (among-none n h)
     by_size false h = told-of-all n h
 
   pub claims-told : (n : ℕ) → IsAmong (claims_in text P c) n
-      → (x : EffectLine) × IsAmong (declared_by text P t c.place.region) x × (x.line ≡ n) × (extent_has x.effect.extent t.part c.place.index ≡ true)
+      → (x : EffectLine) × IsAmong (told_of_region text P t c.place.region) x × (x.line ≡ n) × (extent_has x.effect.extent t.part c.place.index ≡ true)
   claims-told n h =
       let told = told-in n h in
-      (told.0, passes (is_of_task text P t c.place.region) (effect_lines text) told.0 told.1 told.3, told.2, told.4)
+      (told.0, passes (is_of_task text P t c.place.region) (task_effects text) told.0 told.1 told.3, told.2, told.4)

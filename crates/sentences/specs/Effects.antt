@@ -37,20 +37,20 @@ abbrev pub effects_behind : ℕ → List Reading → List EffectLine
 effects_behind family [] = []
 effects_behind family (r ∷ rs) = effects_said family r ++ effects_behind (family_behind family r) rs
 
-unfoldable pub effects_of : List ℕ → List EffectLine
-effects_of text = effects_behind 0 (readings text)
+unfoldable pub readings_effects : List ℕ → List EffectLine
+readings_effects text = effects_behind 0 (readings text)
 
 -- the lines of a text that have effects; a text that is too large has none
-abbrev pub effect_lines : List ℕ → List EffectLine
-effect_lines text = if nat_lt 1048576 (length text) then [] else effects_of text
+abbrev pub task_effects : List ℕ → List EffectLine
+task_effects text = if nat_lt 1048576 (length text) then [] else readings_effects text
 
 -- whether a line has an effect of the task on the region of this number
 abbrev pub is_of_task : List ℕ → ProgramParts → TaskPlace → ℕ → EffectLine → Bool
 is_of_task text p t region x = x.family == t.line && names_region text x.effect.region (slice_get p.regions region)
 
 -- the lines by which a task declares words of a region
-abbrev pub declared_by : List ℕ → ProgramParts → TaskPlace → ℕ → List EffectLine
-declared_by text p t region = filter (is_of_task text p t region) (effect_lines text)
+abbrev pub told_of_region : List ℕ → ProgramParts → TaskPlace → ℕ → List EffectLine
+told_of_region text p t region = filter (is_of_task text p t region) (task_effects text)
 
 -- ---- the words
 
@@ -58,17 +58,17 @@ declared_by text p t region = filter (is_of_task text p t region) (effect_lines 
 abbrev pub bound_of : ℤ → ℕ
 bound_of z = if int_lt z (pos 0) then 0 else (if int_lt (pos 65536) z then 65537 else natural_of z)
 
-abbrev pub between : ℤ → ℤ → Bounds
-between lo hi = record { low = bound_of lo; high = bound_of hi }
+abbrev pub interval_bounds : ℤ → ℤ → Bounds
+interval_bounds lo hi = record { low = bound_of lo; high = bound_of hi }
 
 abbrev pub moved_between : ℤ → ℤ → ℤ → Bounds
 moved_between lo hi moved =
-    if is_within (neg_ℤ (pos 65536)) (pos 65537) moved then between (lo +ℤ moved) (hi +ℤ moved) else record { low = 0; high = 0 }
+    if is_within (neg_ℤ (pos 65536)) (pos 65537) moved then interval_bounds (lo +ℤ moved) (hi +ℤ moved) else record { low = 0; high = 0 }
 
 -- the indices that an effect gives to the family's task of this number, in a region of so many words: from `low` to before `high`
 abbrev pub bounds_of : Extent → ℕ → ℕ → Bounds
 bounds_of extent.TheVariants.Whole part len = record { low = 0; high = len }
-bounds_of (extent.TheVariants.Part lo hi) part len = between lo hi
+bounds_of (extent.TheVariants.Part lo hi) part len = interval_bounds lo hi
 bounds_of (extent.TheVariants.Stepped lo hi step) part len = moved_between lo hi (pos part *ℤ step)
 
 -- ---- the sentences
@@ -115,4 +115,4 @@ some_effects text p t region xs = flat_map (effect_text text p t region) (take 3
 -- what a task declares of a region
 abbrev pub declared_text : List ℕ → ProgramParts → Option TaskPlace → ℕ → List ℕ
 declared_text text p None region = []
-declared_text text p (Some t) region = some_effects text p t region (declared_by text p t region)
+declared_text text p (Some t) region = some_effects text p t region (told_of_region text p t region)

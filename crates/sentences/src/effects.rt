@@ -2,7 +2,7 @@
 ghost use Rattle.std.specs.Prelude.{◌≡◌, ◌≤◌, ◌++◌, length, map, filter, flat_map, is_none, slice_get, neg_ℤ, pos, ◌≤ℤ◌, ◌<ℤ◌, ◌+ℤ◌, IfOk, OnOk};
 ghost use Rattle.rv_assembler.specs.Reading.{reading_of};
 ghost use Rattle.text_places.specs.Texts.{indexed};
-ghost use Rattle.sentences.specs.Effects.{effect_on, effects_said, effects_behind, effects_of, effect_lines, is_of_task, bound_of, between, moved_between, bounds_of, last_word, interval_text, effect_word, lock_operand, line_declares, by_effect, given_words, effect_text, more_effects, some_effects, declared_text};
+ghost use Rattle.sentences.specs.Effects.{effect_on, effects_said, effects_behind, readings_effects, task_effects, is_of_task, bound_of, interval_bounds, moved_between, bounds_of, last_word, interval_text, effect_word, lock_operand, line_declares, by_effect, given_words, effect_text, more_effects, some_effects, declared_text};
 
 use crate::claims::{family_behind, moved_for, moved_to, names_region, token_bytes};
 use crate::sites::{len_of, name_of};
@@ -79,10 +79,10 @@ fn effects_among(
     Ok(effects)
 }
 
-#[tactic(auto, unfolding(crate::specs::Effects::effects_of))]
+#[tactic(auto, unfolding(crate::specs::Effects::readings_effects))]
 fn effects_of(alloc: Global, text: &[u8]) -> Result<Sequence<EffectLine>, Memory>
     requires { length text.now ≤ 1048576 }
-    ensures { IfOk result (λ effects. effects ≡ effects_of text.now) }
+    ensures { IfOk result (λ effects. effects ≡ readings_effects text.now) }
 {
     let tokenized = tokens(alloc, text)?;
     let lines = tokenized.as_slice();
@@ -94,7 +94,7 @@ fn effects_of(alloc: Global, text: &[u8]) -> Result<Sequence<EffectLine>, Memory
 /// # Errors
 /// `Memory` if there is no room.
 pub fn effect_lines(alloc: Global, text: &[u8]) -> Result<Sequence<EffectLine>, Memory>
-    ensures { IfOk result (λ effects. effects ≡ effect_lines text.now) }
+    ensures { IfOk result (λ effects. effects ≡ task_effects text.now) }
 {
     if MOST_OF_TEXT < text.len() {
         return Ok(Sequence::new(alloc));
@@ -149,7 +149,7 @@ fn bound_of(bound: i128) -> u32
 }
 
 fn between(lo: i128, hi: i128) -> Bounds
-    ensures { result ≡ between lo hi }
+    ensures { result ≡ interval_bounds lo hi }
 {
     Bounds {
         low: bound_of(lo),
@@ -341,7 +341,7 @@ pub(crate) fn push_declared_effects(
     region: usize,
     effects: &[EffectLine],
 ) -> Result<(), Memory>
-    requires { effects.now ≡ effect_lines text.now }
+    requires { effects.now ≡ task_effects text.now }
     ensures { OnOk result (out.new.items ≡ out.old.items ++ declared_text text.now program.now task region) }
 {
     match task {

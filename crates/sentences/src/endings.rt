@@ -1,7 +1,7 @@
 //! Sentences on how a task stands at the end of a run.
 ghost use Rattle.std.specs.Prelude.{◌≡◌, ◌++◌, OnOk};
 ghost use Rattle.sentences.specs.Quotes.{AreSpans};
-ghost use Rattle.sentences.specs.Effects.{effect_lines};
+ghost use Rattle.sentences.specs.Effects.{task_effects};
 ghost use Rattle.sentences.specs.Endings.{which_line, declares_word, the_task, declared_by_line, declared_text, task_text, code_place_at, stands_at, line_at, fuel_remedy, out_of_fuel, fuel_text, not_given_up, holds_it, holder_untold, holder_text, wait_remedy, wait_text, ending_text};
 
 use crate::effects::EffectLine;
@@ -219,7 +219,7 @@ pub fn push_ending(
     holder: Option<u32>,
 ) -> Result<(), Memory>
     requires spans { AreSpans text.now spans.now }
-    requires effects { effects.now ≡ effect_lines text.now }
+    requires effects { effects.now ≡ task_effects text.now }
     ensures { OnOk result (out.new.items ≡ out.old.items ++ ending_text text.now located.now holder task) }
 {
     let (phase, core) = (task.phase.0, task.core.0);

@@ -47,7 +47,7 @@ ghost use Rattle.sentences.specs.Ranges.{tested_number, has_row, IsMeantAs};
 ghost use Rattle.sentences.specs.Causes.{IsUndeclaredBy, HasTask, UsesPlainlySo, IsPlainlyFree, DeclaresPlainly, DeclaresUnder};
 ghost use Rattle.sentences.specs.Claims.{extent_has, claim_has, claims_in, uses_so};
 ghost use Rattle.sentences.specs.declared.effects.EffectLine.{EffectLine as EffectLineOf};
-ghost use Rattle.sentences.specs.Effects.{bounds_of, declared_by};
+ghost use Rattle.sentences.specs.Effects.{bounds_of, told_of_region};
 ghost use Rattle.sentences.specs.TableClaims.{IsTaskOf, IsClaimedOn, conflict_word};
 ghost use Rattle.sentences.specs.Conflicts.{first_contender, second_contender};
 
@@ -84,11 +84,11 @@ pub fn the_told_lines_are_those_of_the_task()
     ensures words { (e : Extent) (part len index : ℕ) → index < len → len ≤ 65536
         → extent_has e part index ≡ (nat_le (bounds_of e part len).low index && nat_lt index (bounds_of e part len).high) }
     ensures told { (text : List ℕ) (program : ProgramParts) (t : TaskPlaceOf) (c : ContenderOf) (word : ℕ) (x : EffectLineOf) → source text ≡ Ok program → IsAmong (text_places text).tasks t
-        → c.task ≡ Some t → IsWordPlace program.regions word c.place → IsAmong (declared_by text program t c.place.region) x
+        → c.task ≡ Some t → IsWordPlace program.regions word c.place → IsAmong (told_of_region text program t c.place.region) x
         → extent_has x.effect.extent t.part c.place.index ≡ true → uses_so text program.locks c.way x.effect.writes x.effect.lock ≡ true
         → IsClaimedOn text program.locks c word x.line }
     ensures all { (text : List ℕ) (program : ProgramParts) (t : TaskPlaceOf) (c : ContenderOf) (line : ℕ) → c.task ≡ Some t → IsAmong (claims_in text program c) line
-        → (x : EffectLineOf) × IsAmong (declared_by text program t c.place.region) x × (x.line ≡ line) × (extent_has x.effect.extent t.part c.place.index ≡ true) }
+        → (x : EffectLineOf) × IsAmong (told_of_region text program t c.place.region) x × (x.line ≡ line) × (extent_has x.effect.extent t.part c.place.index ≡ true) }
 {}
 
 /// What is said of a task's own effects, where it may not access a word, holds by the rules of access.

@@ -1,7 +1,7 @@
 //! Sentences on a load or store that a task may not do.
 ghost use Rattle.std.specs.Prelude.{◌≡◌, ◌++◌, OnOk, slice_get};
 ghost use Rattle.region_table.specs.Tasks.{declared};
-ghost use Rattle.sentences.specs.Effects.{effect_lines};
+ghost use Rattle.sentences.specs.Effects.{task_effects};
 ghost use Rattle.sentences.specs.Outside.{operands_of, plain_effect, guarded_effect, declare_it, or_mended, plain_remedy, guarded_remedy, held_remedy, acquire_remedy, apart_remedy, guarding_text, same_phase, used_text, reading_text, nobody_text, others_text, free_text, undeclared_text, read_only_text, declares_it_under, under_text, read_under_text, own_text, word_sentences, nowhere_text, first_region, further_on, before_text, region_line, last_region, counted, lacked_word, behind_text, is_stack, stack_text, stack_if, region_said, site_sentences, outside_sentences};
 
 use crate::conflicts::push_core;
@@ -341,7 +341,7 @@ fn push_word_sentences(
     located: &Located,
     accessed: Accessed,
 ) -> Result<(), Memory>
-    requires { effects.now ≡ effect_lines text.now }
+    requires { effects.now ≡ task_effects text.now }
     ensures { OnOk result (out.new.items ≡ out.old.items ++ word_sentences text.now located.now accessed.phase accessed.core accessed.access accessed.word accessed.place
         (declared located.now.program accessed.phase accessed.core)) }
 {
@@ -495,7 +495,7 @@ fn push_site(
     access: Access,
     site: Site,
 ) -> Result<(), Memory>
-    requires { effects.now ≡ effect_lines text.now }
+    requires { effects.now ≡ task_effects text.now }
     ensures { OnOk result (out.new.items ≡ out.old.items ++ site_sentences text.now located.now phase core access site) }
 {
     match site {
@@ -529,7 +529,7 @@ pub(crate) fn push_outside(
     access: Access,
     address: u32,
 ) -> Result<(), Memory>
-    requires { effects.now ≡ effect_lines text.now }
+    requires { effects.now ≡ task_effects text.now }
     ensures { OnOk result (out.new.items ≡ out.old.items ++ outside_sentences text.now located.now task.0 task.1 access address) }
 {
     let site = site_of(&located.program, address);

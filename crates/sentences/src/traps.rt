@@ -1,6 +1,6 @@
 //! Sentences on traps.
 ghost use Rattle.std.specs.Prelude.{◌≡◌, ◌++◌, OnOk};
-ghost use Rattle.sentences.specs.Effects.{effect_lines};
+ghost use Rattle.sentences.specs.Effects.{task_effects};
 ghost use Rattle.sentences.specs.Endings.{accesses_at, said_before, said_behind, remedy, data_text, value_text, trap_text, remedy_text, mending_text, trap_sentences};
 ghost use Rattle.sentences.specs.Uses.{instruction_access};
 
@@ -155,7 +155,7 @@ fn push_mending(
     access: Option<Access>,
     value: u32,
 ) -> Result<(), Memory>
-    requires { effects.now ≡ effect_lines text.now }
+    requires { effects.now ≡ task_effects text.now }
     ensures { OnOk result (out.new.items ≡ out.old.items ++ mending_text text.now located.now task.0 task.1 kind access value) }
 {
     match (kind, access) {
@@ -177,7 +177,7 @@ pub(crate) fn push_trap(
     pc: u32,
     value: u32,
 ) -> Result<(), Memory>
-    requires { effects.now ≡ effect_lines text.now }
+    requires { effects.now ≡ task_effects text.now }
     ensures { OnOk result (out.new.items ≡ out.old.items ++ trap_sentences text.now located.now task.0 task.1 kind (instruction_access located.now.program pc) value) }
 {
     let access = instruction_access(&located.program, pc);
