@@ -1,20 +1,21 @@
 #!/usr/bin/env python3
 """Says which names in the documents are nowhere in the repository: run it at the top of the repository, `tools/check_documents.py`.
 
-Of README.md, CONTRIBUTING.md, CHANGELOG.md, docs/*.md, the README.md of each crate, of each folder of experiments/, of examples/ and its
-folders, and those of bench/, tools/editors/ and crates/worked_rows/data/ it looks at all that stands between backquotes, and at the commands
+Of README.md, CONTRIBUTING.md, CHANGELOG.md, docs/*.md, bench/*.md, crates/TESTS.md, the README.md of each crate, of each folder of experiments/,
+of examples/ and its folders, and those of tools/editors/ and crates/worked_rows/data/ it looks at all that stands between backquotes, and at the commands
 of their indented blocks and of the comments in examples/:
 - a path has to be there, from the top, from crates/, or from the folder that the same line names;
 - a name of code (with a capital, or with `_` or `::`) has to be in the code, its contracts or its definitions;
 - a command `./denovo ..` has to read a text that is there;
 - each fenced block of docs/LIBRARY.md, docs/FROM_C.md, docs/AUDIT.md and docs/TUTORIAL.md has to stand in the file that it quotes, unless it is a
   command's output;
-- the map of docs/ARCHITECTURE.md has the rooms and crates of crates.txt, in its order, and each crate stands on crates before it;
-- what docs/LANGUAGE.md says under "How it is mended", and in its list of how refusals are mended, has to be a sentence of a program;
+- the map of docs/ARCHITECTURE.md has the layers and crates of crates.txt, in its order, and each crate depends on crates before it;
+- each sentence of the crate `sentences` on how a fault, a trap or a conflict is fixed has to stand in an answer of tools/explained.txt;
 - `File.name` of docs/DEFINITION.md has to be defined in that file of the source language's definition;
-- the page PROMISES lists the pages of all crates, by rooms and in the order of crates.txt;
-- no line of a table has more than 300 characters, no cell of one more than 40 words, and no page of a crate more than 40 lines. These
-  limits hold for all pages of the repository.
+- each crate has a page README.md, or a place in crates/TESTS.md;
+- no line of a table has more than 300 characters, no cell of one more than 40 words, and no page more words than tools/checking/lengths.py says;
+- the toolchain that README.md names is the one that is here, where `rt` is on the path;
+- no prose has a house word of tools/checking/house_words.txt but where it is explained.
 The syntax files of tools/editors/ have to have each word of docs/LANGUAGE.md. Each text of examples/ has to be the same as its copy in
 crates/worked_rows/data, which the cases run, each of examples/litmus the same as that of its case in litmus.cases, and the text at the head of
 docs/LANGUAGE.md the same as that of the case language-page.
@@ -22,12 +23,15 @@ It exits 0 where it found nothing, 1 otherwise."""
 import os
 import pathlib
 import re
+import shutil
 import subprocess
 import sys
 
 sys.dont_write_bytecode = True
-sys.path.insert(0, str(pathlib.Path(__file__).resolve().parent / "editors"))
+sys.path[:0] = [str(pathlib.Path(__file__).resolve().parent / "editors"), str(pathlib.Path(__file__).resolve().parent)]
 from check_syntax import lacking_words  # noqa: E402
+from checking.house import house_words, pages  # noqa: E402
+from checking.lengths import too_long  # noqa: E402
 
 tracked = [name for name in subprocess.run(["git", "ls-files"], capture_output=True, text=True).stdout.split("\n") if name]
 folders = {str(parent) for name in tracked for parent in pathlib.PurePath(name).parents}
@@ -36,9 +40,9 @@ names = {pathlib.PurePath(name).name for name in there} | {pathlib.PurePath(name
 code = "\n".join(pathlib.Path(name).read_text() for name in tracked
                  if name.endswith((".rt", ".antt", ".py", ".txt", ".cases", ".s")) or name.startswith(("bench/", "experiments/", ".ci/")) and not name.endswith((".svg", ".csv", ".md")))
 words = set(re.findall(r"[A-Za-z_]\w*(?:-\w+)*'?", code))
-documents = ["README.md", "CONTRIBUTING.md", "CHANGELOG.md", "bench/README.md", "tools/editors/README.md",
+documents = ["README.md", "CONTRIBUTING.md", "CHANGELOG.md", "crates/TESTS.md", "tools/editors/README.md",
              "crates/worked_rows/data/README.md"] + [n for n in tracked if re.fullmatch(r"examples/(?:[\w-]+/)?README\.md", n)] + [
-    n for n in tracked if re.fullmatch(r"docs/\w+\.md|(?:crates|experiments)/[\w-]+/README\.md", n)]
+    n for n in tracked if re.fullmatch(r"(?:docs|bench)/\w+\.md|(?:crates|experiments)/[\w-]+/README\.md", n)]
 examples = sorted(n for n in tracked if re.fullmatch(r"examples/[\w-]+\.s", n))
 found = []
 
@@ -96,41 +100,39 @@ for file, name in re.findall(r"`([A-Z]\w+)\.(\w+)`", pathlib.Path("docs/DEFINITI
     defined = [path for path in specs if path.exists() and re.search(rf"^[a-z ]*\b{name}\b", path.read_text(), re.M)]
     if not defined:
         found.append(f"docs/DEFINITION.md: no such definition: {file}.{name}")
-said = {kind.lower(): sentence for kind, sentence in
-        re.findall(r"^(?:amendment|remedy) \(?\w+\.TheVariants\.(\w+).* = codes \"(.*)\"$", code, re.M)}
-language = pathlib.Path("docs/LANGUAGE.md").read_text()
-mended = [pair for rows in re.findall(r"^\|[^|\n]*\| How it is mended \|\n\|---\|---\|\n((?:\|.*\n)+)", language, re.M)
-          for pair in re.findall(r"^\| `([^|`]*)` \| ([^|]*) \|$", rows, re.M)]
-listed = re.findall(r"^- `([a-z-]+)`: (.*(?:\n  .*)*)$", re.search(r"\nHow each is mended.*\n\n((?:- .*\n(?:  .*\n)*)+)", language)[1], re.M)
-for kind, sentence in mended + [(kind, " ".join(lines.split())) for kind, lines in listed]:
-    if said.get(kind.replace("-", ""), sentence) != sentence or sentence + '"' not in code:
-        found.append(f"docs/LANGUAGE.md: of {kind} no program says: {sentence}")
-# the map: the crates of docs/ARCHITECTURE.md by rooms are those of crates.txt, in the same order, and each stands on crates before it
-rooms, listed_crates = re.findall(r"^# ([a-z ]+): .*\n((?:\w.*\n)+)", pathlib.Path("crates.txt").read_text(), re.M), []
-for room, lines in rooms:
+# each sentence on how a fault, a trap or a conflict is fixed is seen in an answer, but those in whose place a more precise one is always known
+shown = pathlib.Path("tools/explained.txt").read_text()
+fixes = re.findall(r'^(?:amendment|remedy) \(?\w+\.TheVariants\.(\w+).* = codes "(.*)"$', code, re.M) + [
+    ("a conflict", sentence) for sentence in re.findall(r'^\w+_remedy = codes "  ((?:Give|Have) .*)" \+\+ newline$', code, re.M)]
+for kind, sentence in fixes:
+    if (sentence in shown) == (kind in ("Outside", "BadOperand", "OutOfRange", "Misplaced", "Memory")):
+        found.append(f"tools/explained.txt: of {kind}: {sentence}")
+if len(fixes) < 26:
+    found.append(f"tools/explained.txt is compared with {len(fixes)} sentences on fixes alone")
+# the map: the crates of docs/ARCHITECTURE.md by layers are those of crates.txt, in the same order, and each depends on crates before it
+layers, listed_crates = re.findall(r"^# ([a-z ]+): .*\n((?:\w.*\n)+)", pathlib.Path("crates.txt").read_text(), re.M), []
+for layer, lines in layers:
     for line in lines.splitlines():
         name, _, libraries = line.partition(":")
-        listed_crates.append((room, name.split()[0]))
+        listed_crates.append((layer, name.split()[0]))
         for library in libraries.split():
             if f"crates/{library}" in folders and library not in [crate for _, crate in listed_crates]:
-                found.append(f"crates.txt: {name} stands on {library}, which isn't named before it")
-drawn, room = [], ""
+                found.append(f"crates.txt: {name} depends on {library}, which isn't named before it")
+drawn, layer = [], ""
 for cell, crates in re.findall(r"^\| ([a-z ]*) \| ((?:`\w+`(?:, )?)+) \|", pathlib.Path("docs/ARCHITECTURE.md").read_text(), re.M):
-    room = cell.strip() or room
-    drawn += [(room, name) for name in re.findall(r"`(\w+)`", crates)]
+    layer = cell.strip() or layer
+    drawn += [(layer, name) for name in re.findall(r"`(\w+)`", crates)]
 if drawn != listed_crates:
     found.append(f"docs/ARCHITECTURE.md: the map isn't that of crates.txt: {sorted(set(drawn) ^ set(listed_crates)) or 'the order differs'}")
 for crate in sorted({folder for folder in folders if re.fullmatch(r"crates/\w+", folder)} - {"crates/" + crate for _, crate in listed_crates}):
     found.append(f"crates.txt: {crate} isn't named")
-paged = [(room, name) for room, pages in re.findall(r"^- \*([a-z ]+)\*: (.*(?:\n  .*)*)$", pathlib.Path("docs", "PROMISES").with_suffix(".md").read_text(), re.M)
-         for name in re.findall(r"\[(\w+)\]", pages)]
-if paged != listed_crates:
-    found.append(f"the page PROMISES: its pages aren't those of crates.txt: {sorted(set(paged) ^ set(listed_crates)) or 'the order differs'}")
+shared = pathlib.Path("crates/TESTS.md").read_text()
+for _, crate in listed_crates:
+    if f"crates/{crate}/README.md" not in there and not re.search(rf"^## .*\b{crate}\b", shared, re.M):
+        found.append(f"crates/{crate}: it has no page, and no heading of crates/TESTS.md names it")
 # the limits of form
 for page in (name for name in tracked if name.endswith(".md")):
     lines = pathlib.Path(page).read_text().split("\n")
-    if re.fullmatch(r"crates/\w+/README\.md", page) and len(lines) > 41:
-        found.append(f"{page}: {len(lines) - 1} lines, and a crate's page has at most 40")
     for number, line in enumerate(lines, 1):
         if re.match(r" *(?:\d+\. )?\|", line):
             if len(line) > 300:
@@ -162,7 +164,13 @@ case = re.search(r"case language-page\ntext\n((?:  .*\n)+)", cases)[1]
 page = re.search(r"\n\n((?:    .*\n)+)", pathlib.Path("docs/LANGUAGE.md").read_text())[1]
 if case != re.sub(r"(?m)^  ", "", page):
     found.append("docs/LANGUAGE.md: its text differs from the case language-page")
+if shutil.which("rt"):
+    kit = subprocess.run(["rt", "version"], capture_output=True, text=True).stdout.strip()
+    if f"\n    {kit}\n" not in pathlib.Path("README.md").read_text():
+        found.append(f"README.md: the toolchain here is {kit}, and it names another")
 found += lacking_words()
+found += too_long(tracked)
+found += [f"{name}:{number}: a house word: {word}; the field says: {field}" for name, number, word, field in house_words(pages())]
 for line in found:
     print(line)
 sys.exit(1 if found else 0)

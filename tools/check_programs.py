@@ -3,14 +3,14 @@
 .ci/run does, `tools/check_programs.py`. With `--quick` it takes whatever the launchers run, also builds without proof. With `--times`
 it says how long each part takes.
 
-It looks that the command words are handed on, that each exit code from 0 to 7 comes out, and 9 for words that aren't UTF-8, that a
-run goes by a pipe into its picture, its account, its states and its page, that all are those of tools/reference.py, that explained
-answers are those of tools/explained.txt, that claims are judged as tools/reference.py judges them, that what all runs of a text have in
-common is that of tools/outcomes.txt and, on made texts, of tools/reference.py, that what other tools get of runs and listings says what the rules
-say, that standard error helps, that the
-tutorial and the documents on accounts, states and pages show what their commands print, that the numbers of accounts, of lists, of answers to
-exercises and at the heads of examples are those of runs, and that the proved programs are used exactly where they were made of these
-sources. What a run has to write comes from tools/reference.py. It names each check that fails, and ends with a count."""
+It looks that the command words are handed on, that each exit code from 0 to 7 comes out, and 9 for words that aren't UTF-8, that a run goes
+by a pipe into its picture, its account, its states and its page, that all are those of tools/reference.py, that explained answers are those
+of tools/explained.txt, that claims are judged as tools/reference.py judges them, that what all runs of a text have in common is that of
+tools/outcomes.txt and, on made texts, of tools/reference.py, that what other tools get of runs and listings says what the rules say, that
+standard error helps, that the tutorial and the documents on accounts, states and pages show what their commands print, that the numbers of
+accounts, of lists, of answers to exercises and at the heads of examples are those of runs, that every command of the pages runs, that their
+constants are those of the definitions, and that the proved programs are used exactly where they were made of these sources. What a run has
+to write comes from tools/reference.py. It names each check that fails, and ends with a count."""
 import functools
 import multiprocessing
 import os
@@ -21,12 +21,13 @@ import time
 TOP = pathlib.Path(__file__).resolve().parent.parent
 os.chdir(TOP)
 sys.dont_write_bytecode = True
-from checking import calls, charts, claimed, explained, exported, settled, shown, told  # noqa: E402
+from checking import calls, charts, claimed, commands, constants, explained, exported, settled, shown, told  # noqa: E402
 from checking.counting import KIND, take  # noqa: E402
 
 # Each part runs in a process of its own, as many at once as there are processors: those that take longest begin first.
 PARTS = [functools.partial(shown.states_are_those_of_the_reference, example, words, share, shares)
          for example, words, shares in reversed(shown.STATE_RUNS if KIND == "proved" else shown.STATE_RUNS[:3]) for share in range(shares)] + [
+    functools.partial(commands.every_command_of_a_page_runs, page) for page in commands.pages_with_commands()] + [
     shown.pages_are_those_of_the_reference,
     shown.a_run_without_an_event_has_one_state,
     shown.a_state_has_as_many_mails_as_may_be,
@@ -57,7 +58,10 @@ PARTS = [functools.partial(shown.states_are_those_of_the_reference, example, wor
     charts.a_run_is_drawn_by_a_pipe,
     charts.a_chart_begins_at_an_event,
     calls.standard_error_helps,
+    constants.constants_of_the_pages_are_those_of_the_definitions,
+    constants.the_options_have_the_ranges_of_the_definition,
     told.pages_show_what_is_printed,
+    told.claims_on_a_page_agree,
     told.the_tutorial_shows_a_whole_answer,
     told.the_first_page_shows_what_is_printed,
     told.every_command_of_the_exercises_answers,

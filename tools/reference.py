@@ -16,9 +16,9 @@ somewhere else to come from. It takes texts that assemble and check; it refuses 
     tools/reference.py lists [run|phase|core|region [csv|text]] < DOCUMENT
                                             the same of the run beside lists of sharers
     tools/reference.py state [N] < DOCUMENT the state before event N of a document, from 0, and which events may come there, in the lines
-                                            of docs/STATE.md
+                                            of docs/VIEWS.md
     tools/reference.py chart [--first=N] [--rows=N] [--tick-core=N] [--tick-bank=N] [--tick-mail=N] [--columns=used] < DOCUMENT
-                                            the message chart of a document that replays, by docs/CHART.md
+                                            the message chart of a document that replays, by docs/VIEWS.md
     tools/reference.py page [FIRST [ROWS [NAME]]] < DOCUMENT
                                             the data of the page of a document's run, from event FIRST on (0) with ROWS events at most
                                             (4096), with the ticks 1, 10 and 5

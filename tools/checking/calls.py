@@ -88,7 +88,7 @@ def standard_error_helps():
         ran = run(words, document)
         check(f"{words[0]} of a document without a run", ran.stdout == b"refused trace not-enabled 0\n" and b"./view --mode state --event N" in ran.stderr, ran.stderr)
     ran = run(["./view", "--mode", "state", "--event", "1"], document)
-    check("a state that isn't reached", ran.returncode == 3 and b"docs/STATE.md" in ran.stderr and b"trapped" not in ran.stderr, ran.stderr)
+    check("a state that isn't reached", ran.returncode == 3 and b"docs/VIEWS.md" in ran.stderr and b"trapped" not in ran.stderr, ran.stderr)
     for example, words in (("conflict", b"Conflicts"), ("trap", b"Traps"), ("endless", b"Traps")):
         check(f"the page on {example}", words in run(["./denovo"], text_of(example)).stderr)
     for example, words in (("conflict", []), ("trap", []), ("endless", []), ("crossed-locks", ["--seed", "1"])):
@@ -98,7 +98,7 @@ def standard_error_helps():
     document = run(["./denovo", "--mode", "trace"], text_of("store-five")).stdout.replace(b".writes", b".wrotes")
     for words in (["./view", "--mode", "account"], ["./referee"]):
         ran = run(words, document)
-        wanted = f"{' '.join(words)} < {'DOCUMENT' if words[0] == './view' else 'CLAIM'} | ./explain TEXT".encode()
+        wanted = f"{' '.join(words)} < {'TRACE' if words[0] == './view' else 'CLAIM'} | ./explain TEXT".encode()
         check(f"explain is named behind {words[0]}", ran.returncode == 2 and wanted in ran.stderr, ran.stderr)
     for text, words in (("no such file", b"no such file: there is no such file"), ("examples", b"examples is a folder")):
         ran = run(["./explain", text], b"")

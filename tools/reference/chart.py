@@ -1,4 +1,4 @@
-"""The message chart of a run, as an SVG text, by docs/CHART.md."""
+"""The message chart of a run, as an SVG text, by docs/VIEWS.md."""
 
 from .documents import read_document
 from .isa import instruction_text

@@ -1,4 +1,4 @@
-"""The state before an event, in the lines of docs/STATE.md, and why an event may not come."""
+"""The state before an event, in the lines of docs/VIEWS.md, and why an event may not come."""
 
 from .documents import read_document
 from .isa import instruction_text
@@ -8,7 +8,7 @@ from .texts import assemble, code_lines
 
 
 class StateText:
-    """The lines that show a state: see docs/STATE.md."""
+    """The lines that show a state: see docs/VIEWS.md."""
 
     def __init__(self, text, machine):
         self.machine, self.program, self.lines = machine, machine.program, code_lines(text)

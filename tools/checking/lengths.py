@@ -1,0 +1,40 @@
+"""How long pages may be, in words. A word is what has a letter or a digit between blanks, so that the bars of tables don't count."""
+import pathlib
+import re
+
+# pages of docs/, by their names, and others by their paths
+MOST = {
+    "PROMISES": 3350, "LIMITS": 1050, "AUDIT": 1250, "NOTATION": 1200, "DEFINITION": 650, "ARCHITECTURE": 1750, "DECISIONS": 1850,
+    "COST": 350, "GLOSSARY": 1000, "PROOFS": 1050, "REFERENCES": 500,
+    "ACCOUNT": 1100, "COMMAND": 1600, "COMPARING": 1600, "C_AND_PYTHON": 450, "EXPERIMENTS": 800, "FAQ": 550, "FROM_C": 700, "LAB": 1600,
+    "LAB_ANSWERS": 1850, "LANGUAGE": 2500, "LIBRARY": 650, "MESI_AND_DENOVO": 750, "PAGE_DATA": 900, "PROTOCOL": 3000, "QUICKREF": 350,
+    "SHARERS": 950, "TUTORIAL": 2350, "VIEWS": 1450,
+    "README.md": 1200, "CONTRIBUTING.md": 800, "crates/TESTS.md": 650, "crates/worked_rows/data/README.md": 1150,
+}
+MOST_OF_DOCS = 35500
+MOST_OF_A_CRATE = 400
+MOST_OF_ALL_CRATES = 15000
+
+
+def words(page):
+    return len([piece for piece in pathlib.Path(page).read_text().split() if re.search(r"\w", piece)])
+
+
+def too_long(tracked):
+    """The pages that have more words than they may have, and pages of docs/ without a limit."""
+    crates = [name for name in tracked if re.fullmatch(r"crates/\w+/README\.md", name)]
+    for page in [name for name in tracked if re.fullmatch(r"docs/\w+\.md", name)] + [name for name in MOST if "/" in name or name.endswith(".md")]:
+        most = MOST.get(page) or MOST.get(pathlib.PurePath(page).stem)
+        if most is None:
+            yield f"tools/checking/lengths.py: no limit for {page}"
+        elif words(page) > most:
+            yield f"{page}: {words(page)} words, and it has at most {most}"
+    for page in crates:
+        if words(page) > MOST_OF_A_CRATE:
+            yield f"{page}: {words(page)} words, and a crate's page has at most {MOST_OF_A_CRATE}"
+    total = sum(words(name) for name in tracked if re.fullmatch(r"docs/\w+\.md", name))
+    if total > MOST_OF_DOCS:
+        yield f"the pages of docs/ have {total} words: more than {MOST_OF_DOCS}"
+    total = sum(map(words, crates + ["crates/TESTS.md", "crates/worked_rows/data/README.md"]))
+    if total > MOST_OF_ALL_CRATES:
+        yield f"the pages of all crates have {total} words: more than {MOST_OF_ALL_CRATES}"
