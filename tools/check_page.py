@@ -1,42 +1,34 @@
 #!/usr/bin/env python3
-"""Steps the page of a run through whole runs in a headless browser, and compares its states with those of tools/reference.py.
+"""Steps the page of a run through whole runs in a headless browser, and compares what it shows with what tools/reference.py computes.
 
     tools/check_page.py [--first N] [--rows N] [--program] [--shot FOLDER] [TEXT ..]
 
 Each text (the examples below where none is named) is run by tools/reference.py with the seed 1. Its page is tools/page.html with the
 data in the place of `@@RUN@@`, as tools/reference.py makes them, or with --program the page that `./view --mode page` writes. In the
-browser the button Next is pressed for each event, and then Back, and after each press the page's state is compared with the state that
-the machine of tools/reference.py has there; then the page jumps to and fro. With --program the text that `./view --mode state` prints
-before each of these events is compared too, with the one of the same machine. It is outside the gate.
-With --shot it leaves pictures of the page in the folder: 800 and 1,600 wide, light and dark.
+browser tools/check_page.js presses Next for each event, and then Back. After each press it compares the page's state with that of the
+machine of tools/reference.py, and with tools/reference/marks.py the copies that are marked as stale, what the sentence says of them and of
+lists of sharers, and the counters. It presses each other button that steps, and its keys, and compares the events that come; also without
+plain instructions, for one word alone, played, by the strip, by addresses and in the presenter's view. It looks whether all that can be
+pressed has a name, whether each text has a contrast of 4.5 in both schemes of colours, and whether an event prints on one sheet. With
+--program the text that `./view --mode state` prints before each of these events is compared too, with the one of the same machine. It is
+outside the gate. With --shot it leaves pictures of the page in the folder, as the list SHOTS has them.
 
-It exits with 0 where no state differs, 1 otherwise, and 0 with a word of it where no browser is there."""
+It exits with 0 where nothing differs, 1 otherwise, and 0 with a word of it where no browser is there."""
 import argparse
 import json
 import os
-import re
-import shutil
 import subprocess
 import sys
 import tempfile
 
+from headless import Browser, command
+
 HERE = os.path.dirname(os.path.abspath(__file__))
 EXAMPLES = ["stale-copy", "signature", "eviction-race", "locked-counter", "crossed-locks", "trap", "endless", "touched-bit"]
 MARK = "@@RUN@@"
-# presses Next through the events, then Back, then jumps; `expected` has the state before each event and behind the last
-STEPS = """
-<script>
-(()=>{const expected=JSON.parse(document.getElementById('expected').textContent),bad=[];
- const see=(k,how)=>{if(present!==k||canonical(state)!==expected[k])bad.push(how+' '+k);
-  if(k&&!document.getElementById('r'+(k-1)))bad.push('no row '+k);
-  if(/undefined|NaN/.test(document.getElementById('side').textContent+document.getElementById('say').textContent))bad.push('undefined '+k)};
- go(0);see(0,'begin');
- for(let k=1;k<=COUNT;k++){document.getElementById('bNext').click();see(k,'next')}
- for(let k=COUNT-1;k>=0;k--){document.getElementById('bBack').click();see(k,'back')}
- for(let i=0;i<50;i++){const k=(i*7919)%(COUNT+1);go(k);see(k,'jump')}
- const p=document.createElement('pre');p.id='verdict';p.textContent=JSON.stringify({events:COUNT,bad:bad.slice(0,20),count:bad.length});document.body.append(p)})();
-</script>
-"""
+# width and height of the window, how much larger the page is shown, and whether it is the presenter's view
+SHOTS = [(1280, 800, 1, False), (1280, 800, 1.5, False), (1024, 768, 1, False),
+         (1280, 800, 1, True), (1280, 800, 1.5, True), (1024, 768, 1, True)]
 
 
 def reference(*words, data):
@@ -44,15 +36,6 @@ def reference(*words, data):
     if done.returncode == 9:
         sys.exit("tools/reference.py can't take this text")
     return done.stdout
-
-
-def browser():
-    return next((path for path in map(shutil.which, ("chromium", "chromium-browser", "google-chrome")) if path), None)
-
-
-def run(command, *words):
-    base = [command, "--headless", "--no-sandbox", "--disable-gpu", "--hide-scrollbars", "--virtual-time-budget=1000000"]
-    return subprocess.run(base + list(words), stdout=subprocess.PIPE, stderr=subprocess.DEVNULL, timeout=900).stdout.decode("utf-8", "replace")
 
 
 def page_of_reference(document, options, name):
@@ -78,7 +61,7 @@ def differing_states(document, first, count):
     return differ
 
 
-def check(command, folder, path, options):
+def check(browser, folder, path, options):
     with open(path, "rb") as file:
         document = reference("--mode", "trace", data=file.read())
     name = os.path.basename(path)
@@ -86,35 +69,52 @@ def check(command, folder, path, options):
     if page is None:
         print(name + ": ./view made no page")
         return False
-    states = reference("states", str(options.first), str(options.rows), data=document).decode()
-    shown = os.path.join(folder, name + ".html")
-    with open(shown, "w") as file:
+    part = [str(options.first), str(options.rows)]
+    states = reference("states", *part, data=document).decode()
+    wanted = {"expected": [state for state in states.split("\n\n") if state], "marks": json.loads(reference("marks", *part, data=document))}
+    address = "file://" + os.path.join(folder, name + ".html")
+    with open(address[len("file://"):], "w") as file:
         file.write(page)
-    expected = json.dumps([state for state in states.split("\n\n") if state]).replace("<", "\\u003c")
-    stepped = os.path.join(folder, name + ".stepped.html")
-    with open(stepped, "w") as file:
-        file.write(page.replace("</body>", '<script id="expected" type="application/json">%s</script>%s</body>' % (expected, STEPS)))
-    found = re.search(r'<pre id="verdict">(.*?)</pre>', run(command, "--dump-dom", "file://" + stepped), re.S)
-    verdict = json.loads(found.group(1)) if found else None
+    browser.look(1280, 800)
+    browser.go(address)
+    with open(os.path.join(HERE, "check_page.js")) as file:
+        browser.run(file.read())
+    verdict = browser.run("checkPage(%s)" % json.dumps(wanted))
+    faults = verdict["bad"] + looks(browser, folder)
+    stale, lists = len([pairs for pairs in wanted["marks"]["states"] if pairs]), len([one for one in wanted["marks"]["said"] if one["lists"]])
+    print("%s: %d events, %d states with stale copies, %d sentences of lists, %d faults%s" % (
+        name, verdict["events"], stale, lists, max(verdict["count"], len(faults)), "".join("; " + bad for bad in faults)), flush=True)
     if options.shot:
-        shots(command, options.shot, name, shown)
-    if verdict is None:
-        print(name + ": the page didn't come to its end")
-        return False
-    print("%s: %d events, %d states differ%s" % (name, verdict["events"], verdict["count"], "".join("; " + bad for bad in verdict["bad"])))
+        shots(browser, options.shot, name, address)
     differ = differing_states(document, options.first, verdict["events"]) if options.program else []
     if options.program:
         print("%s: %d texts of the mode state differ%s" % (name, len(differ), "".join("; event " + event for event in differ[:20])))
-    return verdict["count"] == 0 and not differ
+    return not faults and not differ
 
 
-def shots(command, folder, name, shown):
+def looks(browser, folder):
+    """Faults of contrast in both schemes, and of paper."""
+    faults = []
+    for dark in (False, True):
+        browser.look(1280, 800, dark=dark)
+        for part in (0, 0.3, 0.6, 1):
+            faults += browser.run("go(Math.round(COUNT * %s)), lowContrast()" % part)
+    browser.look(1280, 800)
+    for view in (False, True):
+        sheets = browser.paper(os.path.join(folder, "sheet.pdf"))
+        faults += ["an event prints on %d sheets" % sheets] if sheets != 1 else []
+        browser.run("togglePresenter()")
+    return sorted(set(faults))
+
+
+def shots(browser, folder, name, address):
     os.makedirs(folder, exist_ok=True)
-    for width, height in ((800, 1300), (1600, 1000)):
+    for width, height, scale, is_presenter in SHOTS:
         for scheme in ("light", "dark"):
-            dark = ["--blink-settings=preferredColorScheme=0"] if scheme == "dark" else ["--blink-settings=preferredColorScheme=1"]
-            picture = os.path.join(folder, "%s-%d-%s.png" % (name, width, scheme))
-            run(command, *dark, "--window-size=%d,%d" % (width, height), "--screenshot=" + picture, "file://" + shown + "#event=20&word=0")
+            browser.look(width, height, scale, scheme == "dark")
+            browser.go(address + "#event=25&present=%d" % is_presenter)
+            view = "-presenter" if is_presenter else ""
+            browser.shot(os.path.join(folder, "%s-%dx%d-%d%s-%s.png" % (name, width, height, 100 * scale, view, scheme)))
 
 
 def main():
@@ -125,13 +125,12 @@ def main():
     words.add_argument("--shot")
     words.add_argument("texts", nargs="*")
     options = words.parse_args()
-    command = browser()
-    if command is None:
+    if command() is None:
         print("no browser is here: nothing was checked")
         return 0
     texts = options.texts or [os.path.join(HERE, "..", "examples", name + ".s") for name in EXAMPLES]
-    with tempfile.TemporaryDirectory() as folder:
-        return 0 if all([check(command, folder, path, options) for path in texts]) else 1
+    with tempfile.TemporaryDirectory() as folder, Browser() as browser:
+        return 0 if all([check(browser, folder, path, options) for path in texts]) else 1
 
 
 if __name__ == "__main__":

@@ -27,6 +27,9 @@ somewhere else to come from. It takes texts that assemble and check; it refuses 
     tools/reference.py states [FIRST [ROWS]] < DOCUMENT
                                             the state before each event of the page and behind the last one, one fact a line, with an empty
                                             line behind each state
+    tools/reference.py marks [FIRST [ROWS]] < DOCUMENT
+                                            the stale copies in each of these states, and what the page says of each event about stale
+                                            copies and about lists of sharers, as JSON
     tools/reference.py cases FOLDER [NAME]  runs the cases of the folder's files, of those modes and of scripts, and says which
                                             outputs aren't the computed ones, and how many cases reached each kind of event and
                                             each row of the tables of docs/PROTOCOL.md

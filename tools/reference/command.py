@@ -1,5 +1,6 @@
 """The command: which words ask for what, and its exit codes."""
 
+import json
 import sys
 
 from .accounts import account
@@ -9,6 +10,7 @@ from .chart import Chart
 from .claims import claim, diagnosed, judged
 from .lists import lists
 from .machine import LEFT_OUT, Machine
+from .marks import marks
 from .outcomes import against, outcomes_text
 from .pages import page, run_data, states
 from .report import STATUS, agree_with_flat, outcome, run_text
@@ -93,9 +95,12 @@ def command(words):
         status, out = state(sys.stdin.buffer.read(), int((words[1:2] + ["0"])[0]))
         print("".join(line + "\n" for line in out), end="")
         return status
-    if words[:1] in (["page"], ["states"]):
+    if words[:1] in (["page"], ["states"], ["marks"]):
         first, most = (int(word) for word in words[1:3] + ["0", "4096"][len(words[1:3]):])
         data = sys.stdin.buffer.read()
+        if words[0] == "marks":
+            print(json.dumps(marks(data, first, most)))
+            return 0
         if words[0] == "states":
             print("".join("\n".join(lines) + "\n\n" for lines in states(data, first, most)), end="")
             return 0
