@@ -44,6 +44,7 @@ PARTS = [functools.partial(shown.states_are_those_of_the_reference, example, wor
     explained.answers_before_any_text_are_taken,
     claimed.another_simulator_is_compared,
     claimed.the_largest_claims_are_read,
+    exported.data_are_those_of_the_reference,
     exported.traces_are_read_back,
     exported.waves_are_read_back,
     exported.listings_are_read_by_the_gnu_assembler,

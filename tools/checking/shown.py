@@ -31,7 +31,7 @@ def accounts_are_those_of_the_reference():
     for text in (text_of("conflict"), b"nonsense\n"):
         document = written(reference.document(text.decode(), {"banks": 1, "sets": 1, "ways": 1, "fuel": 1}, []))
         replay = run(denovo + ["--mode", "replay"], document)
-        for mode in ("chart", "account", "lists", "state", "page"):
+        for mode in ("chart", "account", "lists", "state", "page", "data"):
             ran = run(programs("view")[0] + ["--mode", mode], document)
             check(f"a refused text, in the mode {mode}", (ran.returncode, ran.stdout) == (2, replay.stdout) and replay.returncode == 2, ran.stdout)
 

@@ -2,3 +2,4 @@ pub mod Json
 pub mod Rows
 pub mod Program
 pub mod Page
+pub mod Data

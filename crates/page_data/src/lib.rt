@@ -3,12 +3,17 @@
 #![tactic(auto)]
 
 mod changes;
+mod effects;
 mod events;
 mod head;
 mod json;
+mod laws;
 mod lists;
 mod mails;
 mod page;
 mod program;
+mod run_data;
 
+pub use laws::each_task_declares_one_item;
 pub use page::{MOST_ROWS, Page, page_text};
+pub use run_data::{RunData, run_data_text};

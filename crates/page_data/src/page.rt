@@ -39,7 +39,7 @@ pub struct Page<'a> {
 
 /// The first `wanted` events, and those after them.
 #[tactic(auto, using(std::proofs::lemmas::List::take_all, std::proofs::lemmas::List::drop_all))]
-fn parted(events: &[Event], wanted: u32) -> (&[Event], &[Event])
+pub(crate) fn parted(events: &[Event], wanted: u32) -> (&[Event], &[Event])
     ensures front { result.0.now ≡ take wanted events.now }
     ensures back { result.1.now ≡ drop wanted events.now }
 {
@@ -67,7 +67,7 @@ fn push_head(
 }
 
 /// Adds the state before some events, and then the events.
-fn push_states(
+pub(crate) fn push_states(
     alloc: Global,
     out: &mut Vec<u8>,
     machine: &mut Machine,

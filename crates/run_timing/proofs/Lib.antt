@@ -12,3 +12,4 @@ pub mod Growing
 pub mod OneChain
 pub mod OneTiming
 pub mod ByPlace
+pub mod Finished

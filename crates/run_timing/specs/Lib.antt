@@ -2,6 +2,7 @@ pub mod Chains
 pub mod Depends
 pub mod Ticks
 pub mod Longest
+pub mod Finishes
 pub mod Befores
 pub mod Rows
 pub mod Tracks

@@ -3,6 +3,7 @@
 #![tactic(auto)]
 
 mod befores;
+mod finishes;
 mod laws;
 mod making;
 mod noting;
@@ -16,6 +17,7 @@ mod timing;
 mod tracks;
 mod way;
 
+pub use finishes::{finish_events, finish_run};
 pub use laws::a_run_has_one_timing;
 pub use text::{push_timing, time_text};
 pub use ticks::Ticks;

@@ -4,3 +4,4 @@ pub mod Kept
 pub mod Paged
 pub mod Pictures
 pub mod Shown
+pub mod DataTold

@@ -15,6 +15,7 @@ use Rattle.run_timing.specs.declared.ticks.Ticks.{Ticks}
 use Rattle.run_timing.specs.declared.timing.Timing.{Timing}
 use Rattle.run_timing.specs.Ticks.{ticks_by}
 use Rattle.run_timing.specs.Longest.{IsTimingOf, numbers_in}
+use Rattle.run_timing.specs.Finishes.{AreFinishesOf}
 use Rattle.run_account.specs.declared.item.Grouping.{Grouping}
 use Rattle.run_account.specs.Tallies.{Tallies}
 use Rattle.run_account.specs.Account.{no_account, account_of_run}
@@ -30,6 +31,8 @@ use Rattle.state_text.specs.declared.answer.StateAnswer.{StateAnswer}
 use Rattle.state_text.specs.Reached.{IsAnswerOf}
 use Rattle.page_data.specs.declared.page.Page.{Page}
 use Rattle.page_data.specs.Page.{IsPageOf}
+use Rattle.page_data.specs.declared.run_data.RunData.{RunData}
+use Rattle.page_data.specs.Data.{IsDataOf}
 use Rattle.run_report.specs.Texts.{HasChecked, IsUnfit}
 use Rattle.program_outside.specs.Serving.{usage_line}
 use Rattle.checked_runs.specs.Documents.{IsRefusedDocument, HasTrace, IsNoDocument, IsRunTold, shape_told}
@@ -196,6 +199,31 @@ pub record IsPageData (P : ProgramParts) (s : TraceShape) (text : List ℕ) (o :
 abbrev pub IsPaged : ProgramParts → TraceShape → List ℕ → PageOptions → RunRecord → Output → Type 0
 IsPaged P s text o r out = IsPageData P s text o r out ⊎ IsPastEnd o.first r.events out
 
+-- ---- data for other programs
+
+-- the data have the page that the options ask for; the line of a code word is the one whose statement gives it, and each event of the run has
+-- this finish
+pub record AreDataFor (o : PageOptions) (text : List ℕ) (r : RunRecord) (timing : Timing) (ends : List ℕ) (d : RunData) : Type 0 where
+  pub page : IsPageFor o text r timing d.page
+  pub places : d.places.now ≡ (text_places text).code
+  pub finishes : d.finishes.now ≡ ends
+
+-- the output is those data, for the longest chain and the finishes by the options' ticks: these bytes and no others
+pub record AreDataTold (P : ProgramParts) (s : TraceShape) (text : List ℕ) (o : PageOptions) (r : RunRecord) (out : Output) : Type 0 where
+  pub within : o.first ≤ last_number r.events
+  pub timing : Timing
+  pub times : IsTimingOf P (shape_told P s) s.fuel r.events (page_ticks o) timing
+  pub finishes : List ℕ
+  pub finish : AreFinishesOf P (shape_told P s) s.fuel r.events (page_ticks o) finishes
+  pub told : RunData
+  pub asked : AreDataFor o text r timing finishes told
+  pub bytes : List ℕ
+  pub is : IsDataOf P (shape_told P s) s.fuel r.events told bytes
+  pub answer : out ≡ made bytes
+
+abbrev pub IsToldAsData : ProgramParts → TraceShape → List ℕ → PageOptions → RunRecord → Output → Type 0
+IsToldAsData P s text o r out = AreDataTold P s text o r out ⊎ IsPastEnd o.first r.events out
+
 -- ---- a row for each mode
 
 -- what each mode makes of a document
@@ -205,6 +233,7 @@ view_made (view.Account o) document out = HasKeptRun document (λ L t r. IsAccou
 view_made (view.Lists o) document out = HasKeptRun document (λ L t r. IsBeside L.program t.shape o r out)
 view_made (view.State o) document out = HasTrace document (λ t. HasChecked t.text (λ P. IsStateShown P t o out))
 view_made (view.Page o) document out = HasKeptRun document (λ L t r. IsPaged L.program t.shape t.text o r out)
+view_made (view.Data o) document out = HasKeptRun document (λ L t r. IsToldAsData L.program t.shape t.text o r out)
 
 -- which documents each mode refuses, and with which line: those that the mode replay of denovo refuses, with its line. For a
 -- state the events needn't be a run
@@ -214,6 +243,7 @@ view_refused (view.Account o) document line = IsRefusedDocument document line
 view_refused (view.Lists o) document line = IsRefusedDocument document line
 view_refused (view.State o) document line = IsWithoutProgram document line
 view_refused (view.Page o) document line = IsRefusedDocument document line
+view_refused (view.Data o) document line = IsRefusedDocument document line
 
 -- ---- answers
 

@@ -107,22 +107,30 @@ state_options_from rows =
     Some (record { event = event }))
     (number_in rows (codes "event") 0 4294967295)
 
--- what a page is asked, where each number is in its range
-unfoldable pub page_options_from : List Row → Option PageOptions
-page_options_from rows =
+-- what a page is asked that has at most so many events, where each number is in its range; `otherwise` is the default of its events
+unfoldable pub events_asked : List Row → ℕ → ℕ → Option PageOptions
+events_asked rows otherwise most =
     option_and_then (λ (first : ℕ).
-    option_and_then (λ (most : ℕ).
+    option_and_then (λ (count : ℕ).
     option_and_then (λ (tick_core : ℕ).
     option_and_then (λ (tick_bank : ℕ).
     option_and_then (λ (tick_mail : ℕ).
-    Some (record { first = first; rows = most; tick_core = tick_core; tick_bank = tick_bank; tick_mail = tick_mail }))
+    Some (record { first = first; rows = count; tick_core = tick_core; tick_bank = tick_bank; tick_mail = tick_mail }))
     (number_in rows (codes "tick-mail") 1 1000000))
     (number_in rows (codes "tick-bank") 1 1000000))
     (number_in rows (codes "tick-core") 1 1000000))
-    (rows_in rows 4096 20000))
+    (rows_in rows otherwise most))
     (number_in rows (codes "first") 0 4294967295)
 
--- the mode that a text names, with what its own options ask for
+-- what a page is asked
+abbrev pub page_options_from : List Row → Option PageOptions
+page_options_from rows = events_asked rows 4096 20000
+
+-- what the data of a run are asked: all events where no word says how many, and no run has more than the greatest number
+abbrev pub data_options_from : List Row → Option PageOptions
+data_options_from rows = events_asked rows 4294967295 4294967295
+
+-- the mode that a text names, if it isn't that of the data, with what its own options ask for
 abbrev pub view_named : Option ChartOptions → AccountOptions → StateOptions → PageOptions → Text → Option View
 view_named chart account state page text =
     if bytes_eq text (codes "chart") then option_map view.TheVariants.Chart chart
@@ -132,17 +140,27 @@ view_named chart account state page text =
     else if bytes_eq text (codes "page") then Some (view.TheVariants.Page page)
     else None
 
+-- a mode in which the rows are at most those of a page
+abbrev pub view_of_rows : List Row → Columns → AccountOptions → StateOptions → Text → Option View
+view_of_rows rows shown account state text =
+    option_and_then (λ (page : PageOptions). view_named (chart_options_from rows shown) account state page text) (page_options_from rows)
+
+-- the mode that a text names: the data of a run, or one in which the rows have a limit
+abbrev pub view_by_mode : List Row → Columns → AccountOptions → StateOptions → PageOptions → Text → Option View
+view_by_mode rows shown account state all text =
+    if bytes_eq text (codes "data") then Some (view.TheVariants.Data all) else view_of_rows rows shown account state text
+
 -- what the values of all options ask for: each is in its range, also where the mode leaves it unused; the rows of a chart are fewer than those
--- of a page
+-- of a page, and those of data have no limit
 unfoldable pub view_from : List Row → Option View
 view_from rows =
     option_and_then (λ (shown : Columns).
     option_and_then (λ (account : AccountOptions).
     option_and_then (λ (state : StateOptions).
-    option_and_then (λ (page : PageOptions).
-    option_and_then (view_named (chart_options_from rows shown) account state page)
+    option_and_then (λ (all : PageOptions).
+    option_and_then (view_by_mode rows shown account state all)
     (first_of (codes "mode") rows))
-    (page_options_from rows))
+    (data_options_from rows))
     (state_options_from rows))
     (account_options_from rows))
     (columns_in rows)
@@ -160,12 +178,18 @@ pub record IsChartInRange (o : ChartOptions) : Type 0 where
   pub tick_bank : IsInRange 1 1000000 o.tick_bank
   pub tick_mail : IsInRange 1 1000000 o.tick_mail
 
--- each number of a page is
-pub record IsPageInRange (o : PageOptions) : Type 0 where
-  pub rows : IsInRange 1 20000 o.rows
+-- each number of a page is, which has at most so many events
+pub record AreEventsInRange (most : ℕ) (o : PageOptions) : Type 0 where
+  pub rows : IsInRange 1 most o.rows
   pub tick_core : IsInRange 1 1000000 o.tick_core
   pub tick_bank : IsInRange 1 1000000 o.tick_bank
   pub tick_mail : IsInRange 1 1000000 o.tick_mail
+
+abbrev pub IsPageInRange : PageOptions → Type 0
+IsPageInRange o = AreEventsInRange 20000 o
+
+abbrev pub IsDataInRange : PageOptions → Type 0
+IsDataInRange o = AreEventsInRange 4294967295 o
 
 -- each number of a mode is; an account, lists and a state have none that is limited
 abbrev pub IsViewInRange : View → Type 0
@@ -174,3 +198,4 @@ IsViewInRange (view.TheVariants.Account o) = Unit {0}
 IsViewInRange (view.TheVariants.Lists o) = Unit {0}
 IsViewInRange (view.TheVariants.State o) = Unit {0}
 IsViewInRange (view.TheVariants.Page o) = IsPageInRange o
+IsViewInRange (view.TheVariants.Data o) = IsDataInRange o

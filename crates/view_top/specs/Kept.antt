@@ -7,6 +7,7 @@ use Rattle.run_replay.specs.declared.trace.Trace.{Trace}
 use Rattle.run_replay.specs.Document.{IsTraceShape}
 use Rattle.run_timing.specs.declared.ticks.Ticks.{Ticks}
 use Rattle.run_timing.specs.declared.timing.Timing.{Timing}
+use Rattle.run_timing.specs.Finishes.{AreFinishesOf}
 use Rattle.run_timing.specs.Longest.{IsTimingOf, numbers_in}
 use Rattle.run_report.specs.Texts.{HasChecked}
 use Rattle.checked_runs.specs.Documents.{shape_told, IsRunTold}
@@ -37,6 +38,10 @@ pub record IsViewable (k : KeptRun) : Type 0 where
 -- the timing of a kept run on the machine of a program, by these ticks
 abbrev pub IsKeptTiming : KeptRun → Ticks → Timing → ProgramParts → Type 0
 IsKeptTiming k ticks timing P = IsTimingOf P (shape_told P k.sizes) k.sizes.fuel k.run.events ticks timing
+
+-- the finishes of a kept run's events on the machine of a program, by these ticks
+abbrev pub AreKeptFinishes : KeptRun → Ticks → List ℕ → ProgramParts → Type 0
+AreKeptFinishes k ticks finishes P = AreFinishesOf P (shape_told P k.sizes) k.sizes.fuel k.run.events ticks finishes
 
 -- the numbers of the events of the run's longest chain, by these ticks
 pub record IsKeptChain (k : KeptRun) (ticks : Ticks) (chain : List ℕ) (P : ProgramParts) : Type 0 where

@@ -8,6 +8,7 @@ use crate::accounts::account_document;
 use crate::charts::draw_document;
 use crate::lists::lists_document;
 use crate::pages::page_document;
+use crate::run_data::data_document;
 use crate::states::show_state;
 use crate::status::ViewStatus;
 use dn_base::{Memory, Sequence};
@@ -55,6 +56,7 @@ fn view_made(alloc: Global, view: &View, document: &[u8]) -> Result<Output, Stop
         View::Lists(options) => lists_document(alloc, options, document),
         View::State(options) => show_state(alloc, options, document),
         View::Page(options) => page_document(alloc, options, document),
+        View::Data(options) => data_document(alloc, options, document),
     }
 }
 
@@ -75,6 +77,9 @@ fn view_made(alloc: Global, view: &View, document: &[u8]) -> Result<Output, Stop
 /// In the mode page it is the data of the page of the run, as one JSON text: without a title, with the events that the options ask for and
 /// the run's longest chain by the options' ticks. Where the page's first event would be after the run's last one, the words are refused.
 /// The HTML around the data is no part of the answer: the launcher of the program writes it, from `tools/page.html`.
+///
+/// In the mode data it is the data of the run for other programs, as one JSON text: those of a page, with the numbers and the lines of the
+/// code words, what each task declares, and when each event finishes. Without a number of rows it has all events.
 ///
 /// # Errors
 /// `Memory` where there is no room for the run, for what is made of it or for the text.

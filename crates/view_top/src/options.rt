@@ -15,6 +15,8 @@ pub enum View {
     State(StateOptions),
     /// The data of the page that shows the run in a browser, as one JSON text.
     Page(PageOptions),
+    /// The data of the run for other programs, as one JSON text.
+    Data(PageOptions),
 }
 
 /// What the words ask of a chart.
@@ -51,12 +53,12 @@ pub struct StateOptions {
     pub event: u32,
 }
 
-/// What the words ask of a page.
+/// What the words ask of a page, and of the data of a run.
 #[derive(Clone, Copy)]
 pub struct PageOptions {
     /// The number of the page's first event, from 0.
     pub first: u32,
-    /// How many events the page has at most, from 1 to 20,000.
+    /// How many events the page has at most, from 1 to 20,000; those of a run's data have no limit.
     pub rows: u32,
     /// Ticks of a core's own event, from 1 to 1,000,000.
     pub tick_core: u32,

@@ -32,7 +32,7 @@ fn page_ticks(options: &PageOptions) -> Ticks
 }
 
 /// The page of a run of a text, as the options ask for it.
-fn page_for<'a>(
+pub(crate) fn page_for<'a>(
     options: &PageOptions,
     text: &'a Sequence<u8>,
     run: &'a RunRecord,

@@ -2,7 +2,7 @@ ghost use Rattle.std.specs.Prelude.{◌≡◌, ◌≤◌, IfOk, IfErr, map, stri
 ghost use Rattle.std.specs.Int.{IsInRange};
 ghost use Rattle.clap.specs.Words.{rows_of, found_of, first_of};
 ghost use Rattle.command_words.specs.declared.words.WordsFault.TheVariants.{Usage};
-ghost use Rattle.view_top.specs.Command.{account_options_from, chart_options_from, columns_in, columns_named, form_in, form_named, grouping_in, grouping_named, page_options_from, rows_in, state_options_from, view_from, view_named, view_of, IsChartInRange, IsPageInRange, IsViewInRange};
+ghost use Rattle.view_top.specs.Command.{account_options_from, chart_options_from, columns_in, columns_named, form_in, form_named, grouping_in, grouping_named, data_options_from, events_asked, view_by_mode, page_options_from, rows_in, state_options_from, view_from, view_named, view_of, view_of_rows, AreEventsInRange, IsChartInRange, IsDataInRange, IsPageInRange, IsViewInRange};
 
 use crate::command::view_command;
 use crate::options::{AccountOptions, ChartOptions, PageOptions, StateOptions, View};
@@ -134,19 +134,36 @@ fn state_options(matches: &ArgMatches<'_>) -> Option<StateOptions>
     })
 }
 
-/// What a page is asked, where each number is in its range.
-#[tactic(auto, unfolding(crate::specs::Command::page_options_from))]
-fn page_options(matches: &ArgMatches<'_>) -> Option<PageOptions>
-    ensures value { result ≡ page_options_from (rows_of (found_of matches.now)) }
-    ensures limits { (o : _) → result ≡ Some o → IsPageInRange o }
+/// What a page is asked that has at most `most` events, where each number is in its range; `otherwise` where no word says how many.
+#[tactic(auto, unfolding(crate::specs::Command::events_asked))]
+fn events_asked(matches: &ArgMatches<'_>, otherwise: u32, most: u32) -> Option<PageOptions>
+    requires { IsInRange 1 most otherwise }
+    ensures value { result ≡ events_asked (rows_of (found_of matches.now)) otherwise most }
+    ensures limits { (o : _) → result ≡ Some o → AreEventsInRange most o }
 {
     Some(PageOptions {
         first: number(matches, "first", 0, 4_294_967_295)?,
-        rows: rows(matches, 4096, MOST_ROWS)?,
+        rows: rows(matches, otherwise, most)?,
         tick_core: number(matches, "tick-core", 1, 1_000_000)?,
         tick_bank: number(matches, "tick-bank", 1, 1_000_000)?,
         tick_mail: number(matches, "tick-mail", 1, 1_000_000)?,
     })
+}
+
+/// What a page is asked.
+fn page_options(matches: &ArgMatches<'_>) -> Option<PageOptions>
+    ensures value { result ≡ page_options_from (rows_of (found_of matches.now)) }
+    ensures limits { (o : _) → result ≡ Some o → IsPageInRange o }
+{
+    events_asked(matches, 4096, MOST_ROWS)
+}
+
+/// What the data of a run are asked: all events where no word says how many.
+fn data_options(matches: &ArgMatches<'_>) -> Option<PageOptions>
+    ensures value { result ≡ data_options_from (rows_of (found_of matches.now)) }
+    ensures limits { (o : _) → result ≡ Some o → IsDataInRange o }
+{
+    events_asked(matches, 4_294_967_295, 4_294_967_295)
 }
 
 /// The mode of this name, with what its own options ask for; a chart's are None where one is out of its range.
@@ -172,6 +189,41 @@ fn view_named(
     }
 }
 
+/// The mode of this name, in which the rows are at most those of a page.
+fn view_of_rows(
+    matches: &ArgMatches<'_>,
+    columns: Columns,
+    account: AccountOptions,
+    state: StateOptions,
+    text: &str,
+) -> Option<View>
+    ensures value { result ≡ view_of_rows (rows_of (found_of matches.now)) columns account state text.now }
+    ensures limits { (v : _) → result ≡ Some v → IsViewInRange v }
+{
+    let page = page_options(matches)?;
+    let chart = chart_options(matches, columns);
+    view_named(text, chart, account, state, page)
+}
+
+/// The mode of this name, with what the words ask of it.
+fn view_by_mode(
+    matches: &ArgMatches<'_>,
+    columns: Columns,
+    account: AccountOptions,
+    state: StateOptions,
+    all: PageOptions,
+    text: &str,
+) -> Option<View>
+    requires all { IsDataInRange all }
+    ensures value { result ≡ view_by_mode (rows_of (found_of matches.now)) columns account state all text.now }
+    ensures limits { (v : _) → result ≡ Some v → IsViewInRange v }
+{
+    match text {
+        "data" => Some(View::Data(all)),
+        _ => view_of_rows(matches, columns, account, state, text),
+    }
+}
+
 /// The mode that the words ask for, with what they ask of it. Each option is in its range, also one that the mode leaves unused.
 #[tactic(auto, unfolding(crate::specs::Command::view_from))]
 fn asked_view(matches: &ArgMatches<'_>) -> Option<View>
@@ -181,19 +233,18 @@ fn asked_view(matches: &ArgMatches<'_>) -> Option<View>
     let columns = columns(matches)?;
     let account = account_options(matches)?;
     let state = state_options(matches)?;
-    let page = page_options(matches)?;
+    let all = data_options(matches)?;
     let text = text_of(matches, "mode")?;
-    let chart = chart_options(matches, columns);
-    view_named(text, chart, account, state, page)
+    view_by_mode(matches, columns, account, state, all, text)
 }
 
 /// What the command words ask for. The program's own name isn't among them.
 ///
 /// The command has the options `--mode`, `--first`, `--rows`, `--columns`, `--tick-core`, `--tick-bank`, `--tick-mail`, `--by`,
 /// `--form` and `--event`, each with one value, and no other words; `View` has the ranges of the numbers. An option may be written as
-/// `--rows 7` or `--rows=7`, and stands once at most; what isn't given is chart, 0, 1000 (in the mode page 4096), all, 1, 10, 5, run, text
-/// and 0. A mode leaves the options of other modes unused, but each has to be in its range; that of the rows is the chart's in the mode
-/// chart, and else the page's.
+/// `--rows 7` or `--rows=7`, and stands once at most; what isn't given is chart, 0, 1000 (in the mode page 4096, in the mode data all), all,
+/// 1, 10, 5, run, text and 0. A mode leaves the options of other modes unused, but each has to be in its range; that of the rows is the
+/// chart's in the mode chart, that of the data in the mode data, and else the page's.
 ///
 /// # Errors
 /// `Usage` if the command doesn't take the words, `Memory` if there is no room to read them.
