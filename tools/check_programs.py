@@ -35,6 +35,8 @@ PARTS = [functools.partial(shown.states_are_those_of_the_reference, example, wor
     claimed.claims_of_runs_agree,
     claimed.claims_are_judged,
     claimed.claims_are_diagnosed,
+    claimed.claims_are_judged_by_what_is_settled,
+    claimed.claims_follow_each_other,
     claimed.a_machine_without_a_rule_is_found,
     claimed.claims_are_refused,
     explained.answers_are_explained,

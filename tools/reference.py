@@ -38,6 +38,9 @@ somewhere else to come from. It takes texts that assemble and check; it refuses 
                                             the least grants
     tools/reference.py judge < CLAIM        whether one thread on one memory does what a claim says, and else where it differs first
     tools/reference.py diagnose < CLAIM     the same, and what leads from there to the fault
+    tools/reference.py settled < CLAIM      whether a claim without grants and loads has what all runs of its text have in common
+    tools/reference.py judge|diagnose|settled batch < CLAIMS
+                                            the same of claims that follow each other
     tools/reference.py outcomes [--fuel N] < TEXT
                                             what every run of a text has in common, whatever order its locks are granted in
     tools/reference.py orders [--fuel N] [--count N] < TEXT

@@ -53,6 +53,13 @@ def diagnosis(claim):
     return status, "".join(line + "\n" for line in lines).encode("latin-1")
 
 
+@functools.lru_cache(16)
+def settled(claim):
+    """The exit code and the bytes that tools/reference.py says of a claim in the mode settled, whose text has a program."""
+    status, lines = reference.settled(claim)
+    return status, "".join(line + "\n" for line in lines).encode()
+
+
 def judges(program, document, wanted, words=()):
     ran = run(program + list(words), document)
     check(f"{program[0]} {' '.join(words)}: a document of {len(document)} bytes, at its end {document[-60:]}", (ran.returncode, ran.stdout) == wanted,
@@ -220,6 +227,131 @@ def claims_are_diagnosed():
         claim = run([sys.executable, "examples/another-simulator/directory.py", "--bug", bug], text).stdout
         judges(program, claim, diagnosis(claim), ["--mode=diagnose"])
         check(f"{name}: the bug {bug} is found", diagnosis(claim)[0] == 3, diagnosis(claim))
+
+
+# Two words, `HERE` in a section of both tasks; the first adds 1, the other 2
+SECTIONS = """.region c, 2
+.lock k
+.phase
+.task 0, go, 1
+.gwrites k, c
+.task 1, go, 2
+.gwrites k, c
+go: mv s0, a0
+ la t0, c
+ li a0, 0
+ li a7, 1
+ ecall
+ lw t1, 0(t0)
+ add t1, t1, s0
+ sw t1, 0(t0)
+ HERE
+ li a0, 0
+ li a7, 2
+ ecall
+ li a7, 0
+ ecall
+"""
+
+
+def with_section(*lines):
+    return SECTIONS.replace(" HERE\n", "".join(f" {line}\n" for line in lines)).encode()
+
+
+def both(retired, *words):
+    """The lines of an answer to such a text, of which each task retires so many instructions."""
+    return ["outcome done"] + ["task 0 %d finished retired %d" % (core, retired) for core in (0, 1)] + ["words 2"] + list(words)
+
+
+SUM, OTHER = "word 0x10000000 0x00000003", "word 0x10000004 0x%08x"
+LAST, FIRST = with_section("sw s0, 4(t0)"), with_section("sw s0, 0(t0)", "lw t1, 4(t0)", "add t1, t1, s0", "sw t1, 4(t0)")
+# A task takes the lock again while it holds it, which traps; the other takes it too
+HELD_AT_END = with_section("li a0, 0", "li a7, 1", "ecall")
+
+# The whole answers of the mode settled, by hand: a text, the claimed answer, and the lines. In LAST the second word varies, and in FIRST the
+# first one does; the other is 3 in each run
+SETTLED = [
+    (with_section(), both(19, SUM), "agrees"),
+    (with_section(), both(19, SUM, OTHER % 1), "differs answer 5"),                     # a word that is 0 in each run
+    (with_section(), both(19, "word 0x10000000 0x00000002"), "differs answer 4", SUM),
+    (with_section(), both(19), "differs answer 4", SUM),
+    (with_section(), both(20, SUM), "differs answer 1", "task 0 0 finished retired 19"),
+    (with_section(), ["outcome trapped"] + both(19, SUM)[1:], "differs answer 0", "outcome done"),
+    (with_section(), [], "differs answer 0", "outcome done"),
+    (with_section(), both(19, SUM)[:3], "differs answer 3", "words 2"),
+    (LAST, both(20, SUM, OTHER % 1), "agrees"),
+    (LAST, both(20, SUM, OTHER % 2), "agrees"),
+    (LAST, both(20, SUM, OTHER % 99), "agrees"),                                         # words that vary aren't compared
+    (LAST, both(20, SUM), "agrees"),
+    (LAST, both(20, OTHER % 1), "differs answer 4", SUM),
+    (LAST, both(20, SUM, OTHER % 1, OTHER % 1), "differs answer 5"),
+    (LAST, both(20, SUM, "word 0x10000004 1"), "differs answer 5"),
+    (FIRST, both(23, "word 0x10000000 0x00000001", OTHER % 3), "agrees"),
+    (FIRST, both(23, OTHER % 3), "agrees"),
+    (FIRST, both(23, "word 0x10000000 0x00000001", OTHER % 4), "differs answer 4", OTHER % 3),
+    (FIRST, both(23, OTHER % 3, "word 0x10000000 0x00000001"), "differs answer 5"),      # words out of their order
+    (HELD_AT_END, both(23), "open held 0 0 0"),
+    (with_section("bnez t1, out", "out:"), both(20, SUM), "open control 0 0 0x0000102c"),
+    (b".region c, 65537\n", [], "refused source 1 out-of-range"),
+]
+
+
+def claims_are_judged_by_what_is_settled():
+    """The mode settled answers each of these claims as it was worked out by hand, and so does tools/reference.py; and it says of each answer of
+    denovo to an example that it agrees, or what is open."""
+    program = programs("referee")[0]
+    for text, answer, *lines in SETTLED:
+        claim = reference.claim_text(text, 32768, [], None, answer)
+        status = {"agrees": 0, "refused": 2}.get(lines[0].split()[0], 3)
+        wanted = (status, "".join(line + "\n" for line in lines).encode())
+        judges(program, claim, wanted, ["--mode", "settled"])
+        if status != 2:
+            check(f"{lines[0]}: the same by tools/reference.py", settled(claim) == wanted, settled(claim))
+    claim = reference.claim_text(LAST, 32768, [], None, both(20, SUM))
+    judges(program, claim[:-1], (3, b"differs answer 4\n" + SUM.encode() + b"\n"), ["--mode", "settled"])
+    judges(program, reference.claim_text(LAST, 32768, [(0, 0, 0)], None, both(20, SUM)), (2, b"refused claim grant 0\n"), ["--mode", "settled"])
+    judges(program, reference.claim_text(LAST, 32768, [(0, 0, 0)], {}, both(20, SUM)), (2, b"refused claim grant 0\n"), ["--mode", "settled"])
+    judges(program, reference.claim_text(LAST, 32768, [], {}, both(20, SUM)), (2, b"refused claim loads\n"), ["--mode", "settled"])
+    judges(program, claim[:40], (2, b"refused claim head\n"), ["--mode", "settled"])
+    for path in sorted(pathlib.Path("examples").glob("*.s")):
+        text = path.read_bytes()
+        if run(programs("denovo")[0] + ["--mode", "check"], text).returncode:
+            continue
+        for seed in ("1", "5"):
+            answer = [line for line in run(programs("denovo")[0] + ["--seed", seed], text).stdout.decode().splitlines() if not line.startswith(("grant", "count"))]
+            claim = reference.claim_text(text, 32768, [], None, answer)
+            judges(program, claim, settled(claim), ["--mode=settled"])
+            check(f"{path.stem}, seed {seed}: the answer of a run agrees, or what is common is open", settled(claim)[1].startswith((b"agrees\n", b"open ")), settled(claim))
+
+
+def claims_follow_each_other():
+    """With `--batch on` each claim is answered as it is alone, behind its number, up to one that is refused."""
+    program = programs("referee")[0]
+    right = reference.claim_text(DIAGNOSED, 32768, BOTH, dict(LOADS), ANSWER)
+    wrong = reference.claim_text(DIAGNOSED, 32768, BOTH, None, ANSWER[:-1])
+    broken = wrong.replace(b"loads none", b"loads some")
+    agrees, differs = b"agrees\n", b"differs answer 5\nword 0x10000000 0x0000000a\n"
+    bare = reference.claim_text(LAST, 32768, [], None, both(20, SUM))
+    held = reference.claim_text(HELD_AT_END, 32768, [], None, [])
+    for mode, claims, wanted in (
+            ("judge", [right], (0, b"claim 0\n" + agrees)),
+            ("judge", [right, right], (0, b"claim 0\n" + agrees + b"claim 1\n" + agrees)),
+            ("judge", [right, wrong, right], (3, b"claim 0\n" + agrees + b"claim 1\n" + differs + b"claim 2\n" + agrees)),
+            ("diagnose", [wrong, right], (3, b"claim 0\n" + differs + b"claimed nothing\nclaim 1\n" + agrees)),
+            ("judge", [wrong, broken, right], (2, b"claim 0\n" + differs + b"claim 1\nrefused claim loads\n")),
+            ("judge", [right, b"denovo-claim 1\n", right], (2, b"claim 0\n" + agrees + b"claim 1\nrefused claim head\n")),
+            ("judge", [b"nothing\n", right], (2, b"claim 0\nrefused claim head\n")),
+            ("judge", [b""], (2, b"claim 0\nrefused claim head\n")),
+            ("settled", [bare, held, bare], (3, b"claim 0\nagrees\nclaim 1\nopen held 0 0 0\nclaim 2\nagrees\n")),
+            ("settled", [bare, right], (2, b"claim 0\nagrees\nclaim 1\nrefused claim grant 0\n"))):
+        together = b"".join(claims)
+        judges(program, together, wanted, ["--mode", mode, "--batch", "on"])
+        status, lines = reference.batch(together, mode)
+        check(f"{mode} {len(claims)}: the same by tools/reference.py", (status, "".join(line + "\n" for line in lines).encode()) == wanted, lines)
+    judges(program, right, (0, agrees), ["--batch", "off"])
+    for words in (["--batch"], ["--batch", "yes"], ["--batch", "on", "--mode", "answer"], ["--mode", "least", "--batch=on"], ["--batch", "on", "--batch", "on"]):
+        judges(program, right, (1, b"refused usage\n"), words)
+    judges(program, right * 200 + wrong, (3, b"".join(b"claim %d\n" % number + agrees for number in range(200)) + b"claim 200\n" + differs), ["--batch=on"])
 
 
 def claims_are_refused():

@@ -17,7 +17,7 @@ from .accounts import MEASURES, account
 from .answers import answer, opened, options
 from .cases import expanded, read_case, run_cases, sections
 from .chart import Chart
-from .claims import claim, claim_text, diagnosed, judged
+from .claims import batch, claim, claim_text, diagnosed, judged, settled
 from .documents import document, read_document, replayed
 from .isa import decode, instruction_text
 from .kinds import KINDS, ROWS
@@ -38,8 +38,8 @@ from .work import work_text
 
 __all__ = [
     "COUNTER", "CROSSED", "Chart", "IDLE", "KINDS", "LIST_MEASURES", "MARKS", "MEASURES", "Machine", "ONE_PLACE", "PART", "Pcg32", "Program", "ROWS", "SHARED", "STALE",
-    "STATUS", "STORE_FIVE", "StateText", "TRAP", "Task", "TaskState", "Unfit", "account", "agree_with_flat", "answer", "answer_text", "assemble", "claim",
+    "STATUS", "STORE_FIVE", "StateText", "TRAP", "Task", "TaskState", "Unfit", "account", "agree_with_flat", "answer", "answer_text", "assemble", "batch", "claim",
     "against", "claim_text", "count_text", "decode", "diagnosed", "document", "event_line", "event_of", "expanded", "flat", "grant_text", "instruction_text", "judged",
     "lists", "longest", "opened", "options", "outcome", "outcomes", "outcomes_text", "page", "play", "proved", "read_case", "read_document", "replayed",
-    "rows", "run_cases", "run_data", "run_text", "sections",
+    "rows", "run_cases", "run_data", "run_text", "sections", "settled",
     "state", "state_lines", "statements", "states", "summary", "ticks_by", "timed", "timing", "work_text"]

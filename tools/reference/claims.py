@@ -5,6 +5,7 @@ import re
 from .answers import opened, options
 from .documents import NUMBER
 from .one_memory import flat
+from .outcomes import Open, outcomes
 from .report import answer_text, grant_text
 from .texts import Unfit, assemble, code_lines
 
@@ -170,4 +171,53 @@ def diagnosed(data):
         rows = rows[:-1] if rows[-1] == b"" else rows
         at = int(lines[0].split()[2])
         lines += ["claimed " + (rows[at].decode("latin-1") if at < len(rows) else "nothing")]
+    return status, lines
+
+
+def settled(data):
+    """The exit code and the lines that say whether a claim without grants and loads has what all runs of its text have in common."""
+    try:
+        fuel, text, grants, loads, claimed = read_claim(data)
+        if grants:
+            raise Broken("grant 0")
+        if loads is not None:
+            raise Broken("loads")
+    except Broken as what:
+        return 2, ["refused claim %s" % what]
+    try:
+        ends, memory = outcomes(assemble(text.decode("latin-1")), fuel)
+    except Open as why:
+        return 3, ["open %s" % why]
+    at, number = 0, 0
+    for line in answer_text((ends, [0] * len(memory))):
+        if not claimed.startswith(line.encode() + b"\n", at):
+            return 3, ["differs answer %d" % number, line]
+        at, number = at + len(line) + 1, number + 1
+    for word, value in enumerate(memory):
+        front = "word 0x%08x " % (0x10000000 + 4 * word)
+        if value is None:
+            found = re.compile(front.encode() + rb"0x[0-9a-f]{8}\n").match(claimed, at)
+            at = found.end() if found else at
+        elif value:
+            line = front + "0x%08x" % value
+            if not claimed.startswith(line.encode() + b"\n", at):
+                return 3, ["differs answer %d" % number, line]
+            at, number = at + len(line) + 1, number + 1
+    return (0, ["agrees"]) if at == len(claimed) else (3, ["differs answer %d" % number])
+
+
+# What is said of one claim, by mode
+VERDICTS = {"judge": judged, "diagnose": diagnosed, "settled": settled}
+
+
+def batch(data, mode):
+    """The same of claims that follow each other: each begins with its first line. One that is refused ends it."""
+    claims = [data] if len(data) > 536870912 else re.split(rb"(?<=\n)(?=denovo-claim 1\n)", data)
+    status, lines = 0, []
+    for number, one in enumerate(claims):
+        code, said = VERDICTS[mode](one)
+        lines += ["claim %d" % number] + said
+        status = max(status, code)
+        if code == 2:
+            return 2, lines
     return status, lines

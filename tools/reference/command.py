@@ -7,7 +7,7 @@ from .accounts import account
 from .answers import answer, opened, options
 from .cases import run_cases
 from .chart import Chart
-from .claims import claim, diagnosed, judged
+from .claims import VERDICTS, batch, claim
 from .lists import lists
 from .machine import LEFT_OUT, Machine
 from .marks import marks
@@ -58,8 +58,8 @@ def command(words):
     if words[:1] == ["text"]:
         print(work_text(int(words[1])), end="")
         return 0
-    if words[:1] in (["judge"], ["diagnose"]):
-        status, out = (judged if words[0] == "judge" else diagnosed)(sys.stdin.buffer.read())
+    if words[0:1] and words[0] in VERDICTS:
+        status, out = (batch(sys.stdin.buffer.read(), words[0]) if words[1:] == ["batch"] else VERDICTS[words[0]](sys.stdin.buffer.read()))
         print("".join(line + "\n" for line in out), end="")
         return status
     if words[:1] == ["claim"]:

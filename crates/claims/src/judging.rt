@@ -59,12 +59,12 @@ fn judge_loads(claimed: &Option<Sequence<TaskLoads>>, right: &[TaskLoads]) -> Op
     }
 }
 
-/// What is said of a claimed answer.
+/// What is said of a claimed answer of at most 536,870,912 bytes beside the right one: that it agrees, or the first line that is wrong.
 ///
 /// # Errors
 /// `Memory` where there is no room for the right line.
 #[tactic(auto, unfolding(crate::specs::Judge::answer_verdict))]
-fn judge_answer(alloc: Global, claimed: &[u8], right: &[u8]) -> Result<Verdict, Memory>
+pub fn judge_answer(alloc: Global, claimed: &[u8], right: &[u8]) -> Result<Verdict, Memory>
     requires { length claimed.now ≤ 536870912 }
     ensures { IfOk result (λ verdict. verdict ≡ answer_verdict claimed.now right.now) }
 {

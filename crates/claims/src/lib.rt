@@ -35,7 +35,7 @@ pub use judge_laws::{
     a_claim_agrees_where_its_run_does, a_claim_has_one_verdict,
     a_claim_of_a_document_can_be_judged, a_right_claim_agrees,
 };
-pub use judging::judge;
+pub use judging::{judge, judge_answer};
 pub use parsing::read_claim;
 pub use refusal::claim_line;
 pub use right::{RightClaim, least_claim, right_claim};

@@ -14,8 +14,8 @@ ghost use Rattle.dn_top.specs.Runs.{with_one_worker};
 ghost use Rattle.view_top.specs.Answers.{IsAnswer as IsViewed};
 ghost use Rattle.view_top.specs.Command.{view_of};
 ghost use Rattle.view_top.specs.Status.{view_told, view_code};
-ghost use Rattle.referee_top.specs.Answers.{IsAnswer as IsReferred};
-ghost use Rattle.referee_top.specs.Command.{referee_mode_of};
+ghost use Rattle.referee_top.specs.Batch.{IsAnswerTo as IsReferred};
+ghost use Rattle.referee_top.specs.Command.{referee_options_of};
 ghost use Rattle.referee_top.specs.Status.{referee_told, referee_code};
 ghost use Rattle.explain_top.specs.Command.{name_in};
 ghost use Rattle.denovo_c.specs.Texts.{IsExplainServed};
@@ -76,7 +76,7 @@ pub extern "C" fn referee_answer(
     out: &mut [u8],
     written: &mut usize,
 ) -> i32
-    ensures { IsHandedOut referee_code (Serves referee_told IsReferred (referee_mode_of (block_words words.now)) (before_call source.now)) out.old out.new written.new result }
+    ensures { IsHandedOut referee_code (Serves referee_told IsReferred (referee_options_of (block_words words.now)) (before_call source.now)) out.old out.new written.new result }
 {
     answer_in_memory::<Referee>(alloc, words, source, out, written)
 }

@@ -100,15 +100,16 @@ ordered-said P o (Whole c) printed out assembles checked right again answer says
     printed-said o.question.text P o.question o.grants c printed out assembles checked refl right again answer is
 ordered-said P o (RefusedAt place) printed out assembles checked right again answer says is = absurd (differs-not place printed answer says)
 
-pub printed-agrees : (m : RefereeMode) (document : List ℕ) (printed out : Reply) → m ≢ mode.TheVariants.Judge → m ≢ mode.TheVariants.Diagnose → IsAnswer m document printed → printed.status ≡ status.TheVariants.Agrees
+pub printed-agrees : (m : RefereeMode) (document : List ℕ) (printed out : Reply) → m ≢ mode.TheVariants.Judge → m ≢ mode.TheVariants.Diagnose → m ≢ mode.TheVariants.Settled → IsAnswer m document printed → printed.status ≡ status.TheVariants.Agrees
     → IsAnswer mode.TheVariants.Judge printed.bytes out → out ≡ verdict_reply SaysAgrees
-printed-agrees mode.TheVariants.Judge document printed out other too made says is = absurd (other refl)
-printed-agrees mode.TheVariants.Diagnose document printed out other too made says is = absurd (too refl)
-printed-agrees mode.TheVariants.Answer document printed out other too (inl told) says is =
+printed-agrees mode.TheVariants.Judge document printed out other too three made says is = absurd (other refl)
+printed-agrees mode.TheVariants.Diagnose document printed out other too three made says is = absurd (too refl)
+printed-agrees mode.TheVariants.Settled document printed out other too three made says is = absurd (three refl)
+printed-agrees mode.TheVariants.Answer document printed out other too three (inl told) says is =
     let by = told.holds.holds in
     ordered-said told.holds.program told.value by.claim printed out told.holds.is told.holds.checked by.right by.again by.answer says is
-printed-agrees mode.TheVariants.Answer document printed out other too (inr refusal) says is = absurd (refused-not refusal.line printed refusal.answer says)
-printed-agrees mode.TheVariants.Least document printed out other too (inl told) says is =
+printed-agrees mode.TheVariants.Answer document printed out other too three (inr refusal) says is = absurd (refused-not refusal.line printed refusal.answer says)
+printed-agrees mode.TheVariants.Least document printed out other too three (inl told) says is =
     let by = told.holds.holds in
     printed-said told.value.text told.holds.program told.value by.claim.grants by.claim printed out told.holds.is told.holds.checked refl by.right.right by.again by.answer is
-printed-agrees mode.TheVariants.Least document printed out other too (inr refusal) says is = absurd (refused-not refusal.line printed refusal.answer says)
+printed-agrees mode.TheVariants.Least document printed out other too three (inr refusal) says is = absurd (refused-not refusal.line printed refusal.answer says)

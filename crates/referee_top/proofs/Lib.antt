@@ -1,4 +1,10 @@
 pub mod Agreeing
+pub mod Batches
+pub mod Behind
 pub mod Commands
 pub mod Fit
+pub mod Plain
+pub mod SettledLaws
+pub mod SettledLemmas
 pub mod Told
+pub mod Walk

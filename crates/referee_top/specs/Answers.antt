@@ -1,9 +1,12 @@
 -- The referee's answer to a mode and a document.
-use Rattle.std.specs.Prelude.{◌≡◌, ◌⊎◌, ℕ, ◌<◌, List, ◌++◌, length}
-use Rattle.region_table.specs.Program.{ProgramParts}
+use Rattle.std.specs.Prelude.{◌≡◌, ◌⊎◌, ℕ, ◌<◌, List, [], ◌∷◌, ◌++◌, length, Option, Some, None}
+use Rattle.dn_base.specs.declared.ids.Grant.{Grant as GrantOf}
+use Rattle.region_table.specs.Program.{ProgramParts, IsProgram}
+use Rattle.region_table.specs.Numbers.{HasWords}
+use Rattle.flat_machine.specs.declared.ending.TaskLoads.{TaskLoads}
 use Rattle.claims.specs.declared.claim.Claim.{Claim}
 use Rattle.claims.specs.declared.claim.ClaimFault.{ClaimFault}
-use Rattle.claims.specs.declared.claim.ClaimFault.TheVariants.{TooLarge}
+use Rattle.claims.specs.declared.claim.ClaimFault.TheVariants.{TooLarge, Grant as NoGrant, Loads as NoLoads}
 use Rattle.claims.specs.declared.claim.GrantOrder.{GrantOrder}
 use Rattle.claims.specs.declared.claim.Question.{Question}
 use Rattle.claims.specs.Alone.{IsQuestionDocument, HasQuestionFault, IsOrderDocument, HasOrderFault}
@@ -21,12 +24,17 @@ use Rattle.claims.specs.Diagnosis.{IsDiagnosis}
 use Rattle.claims.specs.DiagnosisText.{diagnosis_text}
 use Rattle.claims.specs.Right.{IsRightBy, IsRightClaim, IsLeastClaim}
 use Rattle.text_places.specs.Places.{text_places}
+use Rattle.common_outcomes.specs.declared.answer.Outcomes.{Outcomes}
+use Rattle.common_outcomes.specs.declared.answer.Outcomes as common
+use Rattle.common_outcomes.specs.Answer.{outcomes}
+use Rattle.outcomes_top.specs.Text.{open_line}
 use Rattle.run_report.specs.Texts.{HasChecked, IsUnfit}
 use Rattle.program_outside.specs.declared.ends.Output.{Output}
 use Rattle.referee_top.specs.declared.mode.RefereeMode.{RefereeMode}
 use Rattle.referee_top.specs.declared.mode.RefereeMode as mode
 use Rattle.referee_top.specs.declared.status.RefereeStatus.{RefereeStatus}
 use Rattle.referee_top.specs.declared.status.RefereeStatus as status
+use Rattle.referee_top.specs.Settled.{settled_verdict}
 
 -- a status of the referee, and all bytes that are to be written
 abbrev pub Reply : Type 0
@@ -93,6 +101,17 @@ pub record IsDiagnosed (P : ProgramParts) (c : Claim) (out : Reply) : Type 0 whe
   pub leads : IsDiagnosis P c verdict diagnosis
   pub answer : out ≡ diagnosis_reply P c verdict diagnosis
 
+-- the verdict on a claimed answer beside what all runs have in common, or why that is open
+abbrev pub reply_beside : Outcomes → List ℕ → Reply
+reply_beside (common.TheVariants.Settled it) claimed = verdict_reply (settled_verdict it claimed)
+reply_beside (common.TheVariants.Open why) claimed = record { status = status.TheVariants.Differs; bytes = open_line why }
+
+-- what is said of a claim of a run of this program, which is well formed and of which each number has 32 bits
+pub record IsSettledJudged (P : ProgramParts) (c : Claim) (out : Reply) : Type 0 where
+  pub well_formed : IsProgram P
+  pub words : HasWords P
+  pub answer : out ≡ reply_beside (outcomes P c.question.fuel) c.answer
+
 -- the claim of a program's run by the grants of an order
 pub record IsOrdered (P : ProgramParts) (o : GrantOrder) (out : Reply) : Type 0 where
   pub claim : RightClaim
@@ -124,12 +143,39 @@ pub record IsUnwritten (IsRight : Claim → Type 0) (line : List ℕ) : Type 0 w
 abbrev pub IsUnanswered : Question → (ProgramParts → Claim → Type 0) → List ℕ → Type 0
 IsUnanswered q IsRight line = IsUnfit q.text line ⊎ HasChecked q.text (λ P. IsUnwritten (IsRight P) line)
 
+-- ---- a claim of more than an answer
+
+-- the first thing that is told beside a question and an answer
+abbrev pub surplus_of : List GrantOf → Option (List TaskLoads) → Option ClaimFault
+surplus_of (g ∷ gs) loads = Some (NoGrant 0)
+surplus_of [] (Some tasks) = Some NoLoads
+surplus_of [] None = None
+
+abbrev pub surplus : Claim → Option ClaimFault
+surplus c = surplus_of c.grants c.loads
+
+-- the bytes tell a question and an answer, and say nothing of grants and loads
+pub record IsPlainDocument (bytes : List ℕ) (c : Claim) : Type 0 where
+  pub is : IsClaimDocument bytes c
+  pub plain : surplus c ≡ None
+
+-- the claim tells more, and the line refuses the first such thing
+pub record IsSurplus (c : Claim) (line : List ℕ) : Type 0 where
+  pub fault : ClaimFault
+  pub first : surplus c ≡ Some fault
+  pub says : line ≡ refusal_text fault
+
+-- the bytes are no claim, or one that tells more
+abbrev pub IsNotPlain : List ℕ → List ℕ → Type 0
+IsNotPlain document line = IsFaulty HasFault document line ⊎ HasTold IsClaimDocument document (λ c. IsSurplus c line)
+
 -- ---- a row for each mode
 
 -- what each mode does with a document, whose text has a checked program
 abbrev pub mode_done : RefereeMode → List ℕ → Reply → Type 0
 mode_done mode.TheVariants.Judge document out = HasTold IsClaimDocument document (λ c. HasChecked c.question.text (λ P. IsJudged P c out))
 mode_done mode.TheVariants.Diagnose document out = HasTold IsClaimDocument document (λ c. HasChecked c.question.text (λ P. IsDiagnosed P c out))
+mode_done mode.TheVariants.Settled document out = HasTold IsPlainDocument document (λ c. HasChecked c.question.text (λ P. IsSettledJudged P c out))
 mode_done mode.TheVariants.Answer document out = HasTold IsOrderDocument document (λ o. HasChecked o.question.text (λ P. IsOrdered P o out))
 mode_done mode.TheVariants.Least document out = HasTold IsQuestionDocument document (λ q. HasChecked q.text (λ P. IsLeastReply P q out))
 
@@ -138,6 +184,7 @@ mode_done mode.TheVariants.Least document out = HasTold IsQuestionDocument docum
 abbrev pub refused_with : RefereeMode → List ℕ → List ℕ → Type 0
 refused_with mode.TheVariants.Judge document line = IsFaulty HasFault document line ⊎ HasTold IsClaimDocument document (λ c. IsUnfit c.question.text line)
 refused_with mode.TheVariants.Diagnose document line = IsFaulty HasFault document line ⊎ HasTold IsClaimDocument document (λ c. IsUnfit c.question.text line)
+refused_with mode.TheVariants.Settled document line = IsNotPlain document line ⊎ HasTold IsPlainDocument document (λ c. IsUnfit c.question.text line)
 refused_with mode.TheVariants.Answer document line = IsFaulty HasOrderFault document line ⊎ HasTold IsOrderDocument document (λ o. IsUnanswered o.question (λ P. IsRightClaim P o.question o.grants) line)
 refused_with mode.TheVariants.Least document line = IsFaulty HasQuestionFault document line ⊎ HasTold IsQuestionDocument document (λ q. IsUnanswered q (λ P. IsLeastClaim P q) line)
 

@@ -6,17 +6,20 @@ ghost use Rattle.claims.specs.Right.{IsRightClaim, IsLeastClaim};
 ghost use Rattle.run_report.specs.Texts.{IsStop};
 ghost use Rattle.text_places.specs.Places.{text_places};
 ghost use Rattle.referee_top.specs.declared.mode.RefereeMode.TheVariants as mode;
-ghost use Rattle.referee_top.specs.Answers.{IsAnswer, IsJudged, IsDiagnosed, IsOrdered, IsLeastReply, IsTooLarge, IsUnwritten, mode_done, refused_with, verdict_reply, verdict_status, claim_reply};
+ghost use Rattle.referee_top.specs.Answers.{IsAnswer, IsJudged, IsDiagnosed, IsSettledJudged, IsPlainDocument, IsNotPlain, surplus, IsOrdered, IsLeastReply, IsTooLarge, IsUnwritten, mode_done, refused_with, verdict_reply, verdict_status, claim_reply};
 
 use crate::documents::{claim_in, order_in, places_of, question_in, refused};
 use crate::mode::RefereeMode;
+use crate::settled::judge_settled;
 use crate::status::RefereeStatus;
 use claims::{
     Claim, ClaimFault, ClaimTextError, GrantOrder, Question, RightClaim, Verdict, claim_text,
     diagnose, judge, least_claim, push_diagnosis, push_verdict, right_claim,
 };
+use common_outcomes::Outcomes;
 use dn_base::{Memory, Sequence};
 use effect_checker::Checked;
+use outcomes_top::{open_line, outcomes};
 use program_outside::Output;
 use run_report::{Stop, checked_of};
 use std::alloc::Global;
@@ -102,6 +105,36 @@ fn diagnosed(
     })
 }
 
+/// The first thing that a claim tells beside its question and its answer.
+fn surplus(claim: &Claim) -> Option<ClaimFault>
+    ensures { result ≡ surplus claim.now }
+{
+    if claim.grants.len() > 0 {
+        return Some(ClaimFault::Grant { number: 0 });
+    }
+    if claim.loads.is_some() {
+        return Some(ClaimFault::Loads);
+    }
+    None
+}
+
+/// What is said of a claimed answer beside what all runs have in common.
+fn settled(alloc: Global, checked: &Checked, claim: &Claim) -> Result<Reply, Memory>
+    requires { IsJudgeable claim.now }
+    ensures { IfOk result (IsSettledJudged checked.now claim.now) }
+{
+    match outcomes(alloc, checked, claim.question.fuel)? {
+        Outcomes::Settled { common } => {
+            let verdict = judge_settled(alloc, &common, claim.answer.as_slice())?;
+            say(alloc, &verdict)
+        }
+        Outcomes::Open { open } => Ok(Output {
+            status: RefereeStatus::Differs,
+            bytes: Sequence::from_vec(open_line(alloc, open)?),
+        }),
+    }
+}
+
 /// The claim of the run by the grants of an order.
 fn ordered(alloc: Global, checked: &Checked, order: GrantOrder) -> Result<Reply, Stop>
     requires { IsOrder order }
@@ -149,6 +182,32 @@ fn diagnose_document(alloc: Global, document: &[u8]) -> Result<Reply, Stop>
     Ok(diagnosed(alloc, &checked, &places, &claim)?)
 }
 
+/// The claim of a document that says nothing of grants and loads.
+///
+/// # Errors
+/// `Refused` with the line of the document's first fault, or of the first thing that it tells beside a question and an answer, and
+/// `Memory` where there is no room.
+fn plain_claim_in(alloc: Global, document: &[u8]) -> Result<Claim, Stop>
+    ensures ok { IfOk result (IsPlainDocument document.now) }
+    ensures stop { IfErr result (IsStop (IsNotPlain document.now)) }
+{
+    let claim = claim_in(alloc, document)?;
+    match surplus(&claim) {
+        None => Ok(claim),
+        Some(fault) => Err(refused(alloc, fault)),
+    }
+}
+
+/// Judges the answer of a document's claim by what all runs have in common.
+fn settled_document(alloc: Global, document: &[u8]) -> Result<Reply, Stop>
+    ensures done { IfOk result (mode_done mode.Settled document.now) }
+    ensures stop { IfErr result (IsStop (refused_with mode.Settled document.now)) }
+{
+    let claim = plain_claim_in(alloc, document)?;
+    let checked = checked_of(alloc, claim.question.text.as_slice())?;
+    Ok(settled(alloc, &checked, &claim)?)
+}
+
 /// Writes the claim of the run that goes by the grants of a document.
 fn answer_document(alloc: Global, document: &[u8]) -> Result<Reply, Stop>
     ensures done { IfOk result (mode_done mode.Answer document.now) }
@@ -177,6 +236,7 @@ fn done(alloc: Global, asked: RefereeMode, document: &[u8]) -> Result<Reply, Sto
     match asked {
         RefereeMode::Judge => judge_document(alloc, document),
         RefereeMode::Diagnose => diagnose_document(alloc, document),
+        RefereeMode::Settled => settled_document(alloc, document),
         RefereeMode::Answer => answer_document(alloc, document),
         RefereeMode::Least => least_document(alloc, document),
     }
@@ -185,7 +245,8 @@ fn done(alloc: Global, asked: RefereeMode, document: &[u8]) -> Result<Reply, Sto
 /// The answer to a mode and a document.
 ///
 /// A document that isn't of its form is refused with the line of its first fault. If its text has no checked program, it is
-/// refused as denovo refuses that text, with the same line. In the modes answer and least, a claim that would have more than
+/// refused as denovo refuses that text, with the same line. In the mode settled a claim that says something of grants or loads is
+/// refused too. In the modes answer and least, a claim that would have more than
 /// 536,870,912 bytes isn't written, but refused as too large.
 ///
 /// # Errors

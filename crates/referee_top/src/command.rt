@@ -6,10 +6,13 @@ use clap::Command;
 use command_words::{OptionValue, bare_command, with_options};
 use std::alloc::{AllocError, Global};
 
-/// The option of the command, with its default.
-const OPTIONS: [(&str, OptionValue<'_>); 1] = [("mode", OptionValue::Text("judge"))];
+/// The options of the command, with their defaults.
+const OPTIONS: [(&str, OptionValue<'_>); 2] = [
+    ("mode", OptionValue::Text("judge")),
+    ("batch", OptionValue::Text("off")),
+];
 
-/// The command with its one option.
+/// The command with its options.
 #[tactic(auto, unfolding(crate::specs::Command::referee_command))]
 pub(crate) fn referee<'a>(alloc: Global) -> Result<Command<'a>, AllocError>
     ensures { IfOk result (λ made. app_of made ≡ referee_command) }

@@ -2,7 +2,7 @@
 ghost use Rattle.std.specs.Prelude.{◌≡◌, ◌≢◌, ◌↔◌, ℕ, List};
 ghost use Rattle.claims.specs.declared.verdict.Verdict.TheVariants.{Agrees as SaysAgrees};
 ghost use Rattle.referee_top.specs.declared.mode.RefereeMode.{RefereeMode};
-ghost use Rattle.referee_top.specs.declared.mode.RefereeMode.TheVariants.{Judge, Diagnose};
+ghost use Rattle.referee_top.specs.declared.mode.RefereeMode.TheVariants.{Judge, Diagnose, Settled};
 ghost use Rattle.referee_top.specs.declared.status.RefereeStatus.TheVariants.{Agrees};
 ghost use Rattle.referee_top.specs.Answers.{Reply, IsAnswer, verdict_reply};
 ghost use Rattle.referee_top.specs.Laws.{IsClaimOfOneThread};
@@ -15,6 +15,6 @@ pub fn a_claim_agrees_where_one_thread_does()
 
 /// The mode judge says that a claim agrees which the modes answer or least print.
 pub fn a_claim_that_is_printed_agrees()
-    ensures { (asked : RefereeMode) (document : List ℕ) (printed out : Reply) → asked ≢ Judge → asked ≢ Diagnose → IsAnswer asked document printed → printed.status ≡ Agrees
+    ensures { (asked : RefereeMode) (document : List ℕ) (printed out : Reply) → asked ≢ Judge → asked ≢ Diagnose → asked ≢ Settled → IsAnswer asked document printed → printed.status ≡ Agrees
         → IsAnswer Judge printed.bytes out → out ≡ verdict_reply SaysAgrees }
 {}

@@ -12,7 +12,8 @@ pub enum RefereeStatus {
     Usage = 1,
     /// The document was refused, or its text.
     Refused = 2,
-    /// The claim differs from the run by its grants, or one of the grants isn't legal.
+    /// The claim differs from the run by its grants, or one of the grants isn't legal; or in the mode settled from what all runs have in
+    /// common, or that is open.
     Differs = 3,
     /// A read of the source failed.
     ReadFault = 6,

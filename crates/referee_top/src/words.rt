@@ -1,10 +1,10 @@
 ghost use Rattle.std.specs.Prelude.{◌≡◌, IfOk, IfErr, map, string_bytes, Some, None, codes, option_map};
 ghost use Rattle.clap.specs.Words.{rows_of, found_of, first_of};
 ghost use Rattle.command_words.specs.declared.words.WordsFault.TheVariants.{Usage};
-ghost use Rattle.referee_top.specs.Command.{referee_mode_in, referee_mode_named, referee_mode_of};
+ghost use Rattle.referee_top.specs.Command.{batch_in, batch_named, referee_options, referee_mode_in, referee_mode_named, referee_options_in, referee_options_of, takes_batch};
 
 use crate::command::referee;
-use crate::mode::RefereeMode;
+use crate::mode::{RefereeMode, RefereeOptions};
 use clap::ArgMatches;
 use command_words::{WordsFault, matches_by};
 use std::alloc::Global;
@@ -16,8 +16,20 @@ fn named(text: &str) -> Option<RefereeMode>
     match text {
         "judge" => Some(RefereeMode::Judge),
         "diagnose" => Some(RefereeMode::Diagnose),
+        "settled" => Some(RefereeMode::Settled),
         "answer" => Some(RefereeMode::Answer),
         "least" => Some(RefereeMode::Least),
+        _ => None,
+    }
+}
+
+/// Whether several claims may follow each other, by this text.
+fn batch_named(text: &str) -> Option<bool>
+    ensures { result ≡ batch_named text.now }
+{
+    match text {
+        "on" => Some(true),
+        "off" => Some(false),
         _ => None,
     }
 }
@@ -27,6 +39,13 @@ fn mode_text<'a>(matches: &ArgMatches<'a>) -> Option<&'a str>
     ensures { option_map (λ s. s.now) result ≡ first_of (codes "mode") (rows_of (found_of matches.now)) }
 {
     matches.get_str("mode")
+}
+
+/// The text of the option `--batch`.
+fn batch_text<'a>(matches: &ArgMatches<'a>) -> Option<&'a str>
+    ensures { option_map (λ s. s.now) result ≡ first_of (codes "batch") (rows_of (found_of matches.now)) }
+{
+    matches.get_str("batch")
 }
 
 /// The mode that the words ask for.
@@ -39,19 +58,60 @@ fn mode(matches: &ArgMatches<'_>) -> Option<RefereeMode>
     }
 }
 
-/// The mode that the command words ask for. The program's own name isn't among them.
+/// Whether several claims may follow each other, by the words.
+fn batch(matches: &ArgMatches<'_>) -> Option<bool>
+    ensures { result ≡ batch_in (rows_of (found_of matches.now)) }
+{
+    match batch_text(matches) {
+        Some(text) => batch_named(text),
+        None => None,
+    }
+}
+
+/// Whether a mode takes several claims.
+fn takes_batch(mode: RefereeMode) -> bool
+    ensures { result ≡ takes_batch mode }
+{
+    matches!(
+        mode,
+        RefereeMode::Judge | RefereeMode::Diagnose | RefereeMode::Settled
+    )
+}
+
+/// A mode and whether several claims may follow each other, if they may in this mode.
+fn referee_options(mode: RefereeMode, batch: bool) -> Option<RefereeOptions>
+    ensures { result ≡ referee_options mode batch }
+{
+    if batch && !takes_batch(mode) {
+        None
+    } else {
+        Some(RefereeOptions { mode, batch })
+    }
+}
+
+/// What the words ask for.
+fn options(matches: &ArgMatches<'_>) -> Option<RefereeOptions>
+    ensures { result ≡ referee_options_in (rows_of (found_of matches.now)) }
+{
+    let mode = mode(matches)?;
+    let batch = batch(matches)?;
+    referee_options(mode, batch)
+}
+
+/// What the command words ask for. The program's own name isn't among them.
 ///
-/// The command has the option `--mode`, with the value judge, diagnose, answer or least, and takes no other words. The option may be
-/// given once at most, as `--mode least` or `--mode=least`. The default is judge.
+/// The command has the option `--mode`, with the value judge, diagnose, settled, answer or least, and the option `--batch`, with the
+/// value on or off, and takes no other words. Each option may be given once at most, as `--mode least` or `--mode=least`. The defaults are
+/// judge and off. The modes answer and least don't take `--batch on`.
 ///
 /// # Errors
 /// `Usage` if the command doesn't take the words, `Memory` if there is no room to read them.
-#[tactic(auto, unfolding(crate::specs::Command::referee_mode_of), using(crate::proofs::Commands::is_free, command_words::proofs::Commands::not_taken))]
-pub fn read_words(alloc: Global, words: &[String]) -> Result<RefereeMode, WordsFault>
-    ensures taken { IfOk result (λ asked. referee_mode_of (map string_bytes words.now) ≡ Some asked) }
-    ensures usage { IfErr result (λ fault. fault ≡ Usage → referee_mode_of (map string_bytes words.now) ≡ None) }
+#[tactic(auto, unfolding(crate::specs::Command::referee_options_of), using(crate::proofs::Commands::is_free, command_words::proofs::Commands::not_taken))]
+pub fn read_words(alloc: Global, words: &[String]) -> Result<RefereeOptions, WordsFault>
+    ensures taken { IfOk result (λ asked. referee_options_of (map string_bytes words.now) ≡ Some asked) }
+    ensures usage { IfErr result (λ fault. fault ≡ Usage → referee_options_of (map string_bytes words.now) ≡ None) }
 {
-    match mode(&matches_by(referee(alloc)?, words)?) {
+    match options(&matches_by(referee(alloc)?, words)?) {
         Some(asked) => Ok(asked),
         None => Err(WordsFault::Usage),
     }
