@@ -137,10 +137,13 @@ function checkPage({expected, marks}) {
   }
 
   function checkStrip() {
-    const strip = document.getElementById('strip'), {left, width, top} = strip.getBoundingClientRect();
+    const strip = document.getElementById('strip'), begun = strip.getBoundingClientRect();
     for (let part = 0; part <= 10; part++) {
-      strip.dispatchEvent(new MouseEvent('click', {clientX: left + width * part / 10, clientY: top + 2, bubbles: true}));
-      see(Math.round(COUNT * part / 10), 'strip');
+      // a mouse is at a whole number of pixels
+      const {left, width, top} = strip.getBoundingClientRect(), x = Math.round(left + width * part / 10);
+      if (left !== begun.left || width !== begun.width) fault(`the strip moves: ${left} ${width}`);
+      strip.dispatchEvent(new MouseEvent('click', {clientX: x, clientY: top + 2, bubbles: true}));
+      see(Math.max(0, Math.min(COUNT, Math.round((x - left) / width * COUNT))), 'strip');
       if (+strip.getAttribute('aria-valuenow') !== present) fault('strip tells ' + strip.getAttribute('aria-valuenow'));
     }
   }
@@ -153,8 +156,10 @@ function checkPage({expected, marks}) {
     if (!text('say').startsWith(said)) fault('the link’s words');
     if (name && wordName(followed) !== name) fault('the link’s word');
     if (document.getElementById('plain').checked || zoom === 1) fault('the link’s choices');
+    writeAddress();
     if (location.hash !== hash) fault('address ' + location.hash);
     step(1);
+    writeAddress();
     if (text('say').includes('look:') || location.hash.includes('say=')) fault('the link’s words stay');
     history.replaceState(null, '', '#event=' + FIRST);
     readAddress();
