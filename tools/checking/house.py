@@ -18,8 +18,10 @@ def words():
 
 
 def page_name(name):
-    """The name that the list uses for a page: of a crate's page the crate, of an experiment's the folder, else the page."""
+    """The name that the list uses for a page: of a crate's page or source the crate, of an experiment's the folder, else the page."""
     path = pathlib.PurePath(name)
+    if name.endswith(".rt"):
+        return path.parts[1]
     return path.parts[-2] if path.name == "README.md" and len(path.parts) > 1 else path.stem
 
 

@@ -9,21 +9,21 @@ use registry_bank::Bank;
 use std::marker::Model;
 use turn_lock::Object;
 
-/// What a bank's step returns to its caller: its note, and the mail that the bank sends, which the caller has to post.
+/// What a bank's step returns to its caller: its note, and the message that the bank sends, which the caller has to post.
 #[derive(Clone, Copy, PartialEq, Eq)]
 pub struct Handled {
     pub stamped: Stamped,
     pub reply: Option<Posted>,
 }
 
-/// The input of a call of a bank: a mail to put in, or the pick of the mail to handle.
+/// The input of a call of a bank: a message to put in, or the pick of the message to handle.
 #[derive(Clone, Copy)]
 pub enum BankIn {
     Post(Posted),
     Step { pick: u32 },
 }
 
-/// The output of a call of a bank: the mail is in the inbox, or what the step did.
+/// The output of a call of a bank: the message is in the inbox, or what the step did.
 #[derive(Clone, Copy)]
 pub enum BankOut {
     Kept,
@@ -31,10 +31,10 @@ pub enum BankOut {
     Stepped(Option<Handled>),
 }
 
-/// A bank of the memory with its inbox, the number of its next mail, and its clock.
+/// A bank of the memory with its inbox, the number of its next message, and its clock.
 ///
-/// It is spent once its clock or the stamp of the picked mail has reached 2^63, or the number of its next mail 4,294,967,000 (this
-/// project's profile).
+/// It is spent once its clock or the stamp of the picked message has reached 2^63, or the number of its next message
+/// 4,294,967,000 (this project's profile).
 #[derive(Drop)]
 pub struct BankActor {
     bank: Bank,
@@ -53,7 +53,7 @@ impl Model for BankActor {
     ghost view = { λ b. record { state = record { bank = b.bank; inbox = b.inbox.items; next = b.next; clock = b.clock }; spare = vec_capacity b.inbox - vec_len b.inbox } };
 }
 
-/// The mail that an actor sends with its next number, if it sends one.
+/// The message that an actor sends with its next number, if it sends one.
 fn reply(actor: Actor, next: u32, stamp: u64, sent: Option<Outgoing>) -> Option<Posted>
     ensures { result ≡ reply_of actor next stamp sent }
 {
@@ -64,7 +64,7 @@ fn reply(actor: Actor, next: u32, stamp: u64, sent: Option<Outgoing>) -> Option<
 }
 
 impl BankActor {
-    /// The bank with this inbox, this number for its next mail, and this clock.
+    /// The bank with this inbox, this number for its next message, and this clock.
     pub fn new(bank: Bank, inbox: Vec<Posted>, next: u32, clock: u64) -> BankActor
         ensures { result.state ≡ record { bank = bank; inbox = inbox.items; next = next; clock = clock } }
     {
@@ -76,7 +76,7 @@ impl BankActor {
         }
     }
 
-    /// Gives the bank, the inbox, the number of the next mail and the clock back.
+    /// Gives the bank, the inbox, the number of the next message and the clock back.
     pub fn parts(self) -> (Bank, Vec<Posted>, u32, u64)
         ensures { self.state ≡ record { bank = result.0; inbox = result.1.items; next = result.2; clock = result.3 } }
     {
@@ -89,7 +89,7 @@ impl BankActor {
         (bank, inbox, next, clock)
     }
 
-    /// Handles the mail that the pick names, if there is one and the bank isn't spent.
+    /// Handles the message that the pick names, if there is one and the bank isn't spent.
     fn handle(&mut self, pick: u32) -> Option<Handled>
         ensures state { self.new.state ≡ (bank_steps self.old.state pick).0 }
         ensures handled { result ≡ (bank_steps self.old.state pick).1 }

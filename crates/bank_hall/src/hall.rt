@@ -22,8 +22,8 @@ use std::marker::Model;
 use std::sync::Wait;
 use turn_lock::Entry;
 
-/// The banks, the ports and the keeper of one round, each under a turn of its own. Any number of threads may make calls through
-/// a `&Hall`, each with a pass of its own.
+/// The banks, the ports and the barrier controller of one round, each under a turn of its own. Any number of threads may make
+/// calls through a `&Hall`, each with a pass of its own.
 #[derive(Drop)]
 pub struct Hall {
     pub(crate) banks: Row<BankActor>,
@@ -100,7 +100,7 @@ fn tied(
     Ok(all)
 }
 
-/// A caller's passes of the banks, of the ports and of the keeper.
+/// A caller's passes of the banks, of the ports and of the barrier controller.
 #[derive(Drop)]
 struct Apart {
     banks: Vec<RowPass<BankActor>>,
@@ -108,7 +108,7 @@ struct Apart {
     keeper: Vec<RowPass<KeeperActor>>,
 }
 
-/// The passes of the banks, of the ports and of the keeper, of all callers.
+/// The passes of the banks, of the ports and of the barrier controller, of all callers.
 fn untied(alloc: Global, mut passes: Vec<Pass>) -> Result<Apart, Memory>
     ensures banks { IfOk result (λ all. all.banks.items ≡ map (λ p. p.banks) passes.items) }
     ensures ports { IfOk result (λ all. all.ports.items ≡ map (λ p. p.ports) passes.items) }
@@ -130,7 +130,7 @@ fn untied(alloc: Global, mut passes: Vec<Pass>) -> Result<Apart, Memory>
     })
 }
 
-/// The keeper and its history, of a row of one.
+/// The barrier controller and its history, of a row of one.
 fn only(
     mut keepers: Vec<KeeperActor>,
     mut histories: Vec<Vec<Entry<KeeperActor>>>,
@@ -147,10 +147,11 @@ fn only(
 }
 
 impl Hall {
-    /// Shares 1 to 16 banks, 1 to 16 ports and the keeper among 1 to 17 callers, whose passes have the numbers from 0 on.
+    /// Shares 1 to 16 banks, 1 to 16 ports and the barrier controller among 1 to 17 callers, whose passes have the numbers from 0
+    /// on.
     ///
-    /// The bank at index b must have the number b, the keeper as many cores as there are ports, and each mail in an inbox must
-    /// go to that inbox's actor and have a stamp of at most 2^63.
+    /// The bank at index b must have the number b, the barrier controller as many cores as there are ports, and each message in
+    /// an inbox must go to that inbox's actor and have a stamp of at most 2^63.
     ///
     /// # Errors
     /// `Memory` if there is no room; the parts are dropped.
@@ -184,8 +185,8 @@ impl Hall {
         ))
     }
 
-    /// Waits for the turn of a core's port, and takes the mail that the pick names. None exactly if, at this call's position in
-    /// the port's history, the inbox was empty or the picked mail's stamp was 2^63 or more.
+    /// Waits for the turn of a core's port, and takes the message that the pick names. None exactly if, at this call's position
+    /// in the port's history, the inbox was empty or the picked message's stamp was 2^63 or more.
     ///
     /// # Errors
     /// `Memory` if there is no room: nothing was taken, and the pass is as before.
@@ -214,8 +215,8 @@ impl Hall {
         }
     }
 
-    /// Waits for the turn of a bank, calls the gate within it, and handles the mail that the pick names. Returns what the step
-    /// did, with the mail that the bank sends, which the caller has to post. None exactly if, at this call's position in the
+    /// Waits for the turn of a bank, calls the gate within it, and handles the message that the pick names. Returns what the step
+    /// did, with the message that the bank sends, which the caller has to post. None exactly if, at this call's position in the
     /// bank's history, the inbox was empty or the bank was spent.
     ///
     /// # Errors
@@ -248,9 +249,9 @@ impl Hall {
         }
     }
 
-    /// Waits for the turn of the keeper, and handles the mail that the pick names. Returns what the step did; the caller has to
-    /// post its letters. None exactly if, at this call's position in the keeper's history, the inbox was empty or the keeper
-    /// was spent.
+    /// Waits for the turn of the barrier controller, and handles the message that the pick names. Returns what the step did; the
+    /// caller has to post its letters. None exactly if, at this call's position in the barrier controller's history, the inbox
+    /// was empty or the barrier controller was spent.
     ///
     /// # Errors
     /// `Memory` if there is no room: nothing was handled, and the pass is as before.
@@ -347,10 +348,10 @@ impl Hall {
         }
     }
 
-    /// Waits for the turn of the actor that the mail goes to, and puts it into that actor's inbox, at the end.
+    /// Waits for the turn of the actor that the message goes to, and puts it into that actor's inbox, at the end.
     ///
     /// # Errors
-    /// `Memory` if there is no room: nothing was posted, the pass is as before, and the mail is given back.
+    /// `Memory` if there is no room: nothing was posted, the pass is as before, and the message is given back.
     pub fn post<R: Wait>(
         &self,
         rt: &R,
@@ -373,8 +374,8 @@ impl Hall {
         }
     }
 
-    /// Ends the sharing, with all passes of the hall. Gives the parts back, and all calls of each bank, each port and the
-    /// keeper in one order. A single thread could have made these calls, and each pass made exactly those with its number, in
+    /// Ends the sharing, with all passes of the hall. Gives the parts back, and all calls of each bank, each port and the barrier
+    /// controller in one order. A single thread could have made these calls, and each pass made exactly those with its number, in
     /// this order.
     ///
     /// # Errors

@@ -11,8 +11,8 @@ use phase_barrier::{Keeper, Verdict};
 use std::marker::Model;
 use turn_lock::Object;
 
-/// What the keeper's step returns to its caller: its note, the verdict, and the number of the letter to core 0. The letters to
-/// the cores, which the caller has to post, are numbered from there on.
+/// What the barrier controller's step returns to its caller: its note, the verdict, and the number of the letter to core 0. The
+/// letters to the cores, which the caller has to post, are numbered from there on.
 #[derive(Clone, Copy)]
 pub struct KeeperHandled {
     pub stamped: Stamped,
@@ -49,25 +49,25 @@ impl KeeperHandled {
     }
 }
 
-/// The input of a call of the keeper: a mail to put in, or the pick of the mail to handle.
+/// The input of a call of the barrier controller: a message to put in, or the pick of the message to handle.
 #[derive(Clone, Copy)]
 pub enum KeeperIn {
     Post(Posted),
     Step { pick: u32 },
 }
 
-/// The output of a call of the keeper: the mail is in the inbox, or what the step did.
+/// The output of a call of the barrier controller: the message is in the inbox, or what the step did.
 #[derive(Clone, Copy)]
 pub enum KeeperOut {
     Kept,
-    /// None exactly if the inbox was empty or the keeper was spent; nothing changed then.
+    /// None exactly if the inbox was empty or the barrier controller was spent; nothing changed then.
     Stepped(Option<KeeperHandled>),
 }
 
-/// The keeper of the barrier with its inbox, the number of its next mail, and its clock.
+/// The barrier controller of the barrier with its inbox, the number of its next message, and its clock.
 ///
-/// It is spent once its clock or the stamp of the picked mail has reached 2^63, or the number of its next mail 4,294,967,000 (this
-/// project's profile).
+/// It is spent once its clock or the stamp of the picked message has reached 2^63, or the number of its next message
+/// 4,294,967,000 (this project's profile).
 #[derive(Drop)]
 pub struct KeeperActor {
     keeper: Keeper,
@@ -97,7 +97,7 @@ fn letters(verdict: Verdict, cores: u32) -> u32
 }
 
 impl KeeperActor {
-    /// The keeper with this inbox, this number for its next mail, and this clock.
+    /// The barrier controller with this inbox, this number for its next message, and this clock.
     pub fn new(keeper: Keeper, inbox: Vec<Posted>, next: u32, clock: u64) -> KeeperActor
         ensures { result.state ≡ record { keeper = keeper; inbox = inbox.items; next = next; clock = clock } }
     {
@@ -109,7 +109,7 @@ impl KeeperActor {
         }
     }
 
-    /// Gives the keeper, the inbox, the number of the next mail and the clock back.
+    /// Gives the barrier controller, the inbox, the number of the next message and the clock back.
     pub fn parts(self) -> (Keeper, Vec<Posted>, u32, u64)
         ensures { self.state ≡ record { keeper = result.0; inbox = result.1.items; next = result.2; clock = result.3 } }
     {
@@ -122,7 +122,7 @@ impl KeeperActor {
         (keeper, inbox, next, clock)
     }
 
-    /// Handles the mail that the pick names, if there is one and the keeper isn't spent.
+    /// Handles the message that the pick names, if there is one and the barrier controller isn't spent.
     fn handle(&mut self, pick: u32) -> Option<KeeperHandled>
         ensures state { self.new.state ≡ (keeper_steps self.old.state pick).0 }
         ensures handled { result ≡ (keeper_steps self.old.state pick).1 }
@@ -177,7 +177,7 @@ impl Object for KeeperActor {
     }
 }
 
-/// The keeper may be sent to another thread, and shared with it. Nobody calls this; the check of its body proves it.
+/// The barrier controller may be sent to another thread, and shared with it. Nobody calls this; the check of its body proves it.
 fn keeper_crosses(keeper: &KeeperActor) {
     crosses(keeper);
 }

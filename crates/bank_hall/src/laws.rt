@@ -1,5 +1,5 @@
-//! Laws of the histories of a bank, of the keeper and of a port, for proofs about a hall.
-//! A law is a function without effect; its contract states the theorem.
+//! Theorems of the histories of a bank, of the barrier controller and of a port, for proofs about a hall. A theorem is a function
+//! without effect; its contract states the theorem.
 ghost use Rattle.std.specs.Prelude.{◌≡◌, ◌≤◌, ◌<◌, ◌^◌, ◌+◌, ◌*◌, ℕ, List, length, filter_map, map, sum_by, All};
 ghost use Rattle.message_net.specs.declared.actor.Actor.TheVariants.{Keeper};
 ghost use Rattle.turn_lock.specs.History.{Legal};
@@ -11,8 +11,8 @@ ghost use Rattle.bank_hall.specs.Keepers.{KeeperState};
 ghost use Rattle.bank_hall.specs.Halls.{BankEntry, PortEntry, KeeperEntry, bank_answer, bank_next, port_answer, port_next, keeper_answer, keeper_next};
 ghost use Rattle.bank_hall.specs.Handlings.{Handling, AreStamped, BankGoes, bank_alone, bank_handlings, bank_put, bank_told, KeeperGoes, keeper_alone, keeper_handlings, keeper_put, keeper_told, port_put, port_took};
 
-/// A bank handles mails one after the other, and its history tells of exactly these. Each mail that was in its inbox or was put
-/// there is handled or still there; this is said as a sum of weights, for any weights.
+/// A bank handles messages one after the other, and its history tells of exactly these. Each message that was in its inbox or was
+/// put there is handled or still there; this is said as a sum of weights, for any weights.
 pub fn a_bank_handles_its_mails()
     ensures goes { (x y : BankState) (h : List BankEntry) → Legal bank_answer bank_next x h y
         → BankGoes (bank_alone x) (bank_handlings x h) (bank_alone y) }
@@ -23,8 +23,8 @@ pub fn a_bank_handles_its_mails()
         ≡ sum_by (λ g. f g.mail) (bank_handlings x h) + sum_by f y.inbox }
 {}
 
-/// The stamps of a bank's handlings rise. They are greater than its clock and the stamps of the mails, and at most 2^63. The
-/// mails that it sends are numbered from its next number on, at most one for each mail that it handles.
+/// The stamps of a bank's handlings rise. They are greater than its clock and the stamps of the messages, and at most 2^63. The
+/// messages that it sends are numbered from its next number on, at most one for each message that it handles.
 pub fn a_banks_stamps_rise()
     ensures stamps { (x y : BankState) (hs : List (Handling Handled)) → BankGoes x hs y
         → AreStamped (λ (t : Handled). t.stamped) (bank_actor x.bank) x.clock hs }
@@ -33,7 +33,7 @@ pub fn a_banks_stamps_rise()
         → (x.next ≤ y.next) × (y.next ≤ x.next + length hs) }
 {}
 
-/// The same for the keeper.
+/// The same for the barrier controller.
 pub fn a_keeper_handles_its_mails()
     ensures goes { (x y : KeeperState) (h : List KeeperEntry) → Legal keeper_answer keeper_next x h y
         → KeeperGoes (keeper_alone x) (keeper_handlings x h) (keeper_alone y) }
@@ -44,8 +44,8 @@ pub fn a_keeper_handles_its_mails()
         ≡ sum_by (λ g. f g.mail) (keeper_handlings x h) + sum_by f y.inbox }
 {}
 
-/// The stamps of the keeper's handlings rise. They are greater than its clock and the stamps of the mails, and at most 2^63.
-/// For each mail that it handles it has at most one letter for each core.
+/// The stamps of the barrier controller's handlings rise. They are greater than its clock and the stamps of the messages, and at
+/// most 2^63. For each message that it handles it has at most one letter for each core.
 pub fn the_keepers_stamps_rise()
     ensures stamps { (x y : KeeperState) (hs : List (Handling KeeperNote)) → KeeperGoes x hs y
         → AreStamped (λ (t : KeeperNote). t.stamped) Keeper x.clock hs }
@@ -53,8 +53,8 @@ pub fn the_keepers_stamps_rise()
         → (x.next ≤ y.next) × (y.next ≤ x.next + length x.keeper.arrived * length hs) }
 {}
 
-/// Each mail that was in a port's inbox or was put there is taken or still there, as a sum of weights, for any weights. Each
-/// mail that was taken has a stamp below 2^63.
+/// Each message that was in a port's inbox or was put there is taken or still there, as a sum of weights, for any weights. Each
+/// message that was taken has a stamp below 2^63.
 pub fn a_port_loses_no_mail()
     ensures mails { (f : Posted → ℕ) (x y : List Posted) (h : List PortEntry) → Legal port_answer port_next x h y
         → sum_by f x + sum_by f (filter_map (λ e. port_put e.input) h) ≡ sum_by f (filter_map (λ e. port_took e.output) h) + sum_by f y }

@@ -1,8 +1,8 @@
-//! What the host workers of one round share: the banks of the memory, the cores' inboxes and the keeper of the barrier. Each is
-//! an object whose calls stand in one history that a single thread could have made.
+//! What the host workers of one round share: the banks of the memory, the cores' inboxes and the barrier controller of the
+//! barrier. Each is an object whose calls stand in one history that a single thread could have made.
 //!
-//! The output of a call is a function of the object's content and the call's input. Mails have stamps: the stamp of handling a
-//! mail is one more than the greater of the actor's clock and the mail's own stamp, and becomes the actor's clock.
+//! The output of a call is a function of the object's content and the call's input. Messages have stamps: the stamp of handling a
+//! message is one more than the greater of the actor's clock and the message's own stamp, and becomes the actor's clock.
 #![tactic(auto)]
 
 mod bank;

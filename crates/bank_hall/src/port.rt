@@ -7,23 +7,23 @@ use grant_log::{Posted, take_picked};
 use std::marker::Model;
 use turn_lock::Object;
 
-/// The input of a call of a port: a mail to put in, or the pick of the mail to take.
+/// The input of a call of a port: a message to put in, or the pick of the message to take.
 #[derive(Clone, Copy)]
 pub enum PortIn {
     Post(Posted),
     Take { pick: u32 },
 }
 
-/// The output of a call of a port: the mail is in the inbox, or the mail that was taken.
+/// The output of a call of a port: the message is in the inbox, or the message that was taken.
 #[derive(Clone, Copy)]
 pub enum PortOut {
     Kept,
-    /// None exactly if the inbox was empty, or the picked mail's stamp was 2^63 or more.
+    /// None exactly if the inbox was empty, or the picked message's stamp was 2^63 or more.
     Taken(Option<Posted>),
 }
 
-/// A core's inbox. A mail is put in at its end. A take gives the mail at the pick, modulo the number of mails, and the last
-/// mail moves to its index.
+/// A core's inbox. A message is put in at its end. A take gives the message at the pick, modulo the number of messages, and the
+/// last message moves to its index.
 #[derive(Drop)]
 pub struct Port {
     inbox: Vec<Posted>,

@@ -14,7 +14,7 @@ use std::mem;
 /// What the program is given, and what it has to answer.
 #[derive(Drop)]
 pub struct Case {
-    /// The command words.
+    /// The arguments.
     pub words: Vec<String>,
     /// What the source holds.
     pub text: Vec<u8>,

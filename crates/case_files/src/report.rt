@@ -9,7 +9,7 @@ use std::alloc::{AllocError, Global};
 #[derive(Drop)]
 pub struct Report {
     pub agree: u64,
-    /// How many runs agree with the flat machine.
+    /// How many runs agree with the reference machine.
     pub runs: u64,
     /// How many times of runs are those of the slowest chain.
     pub times: u64,
@@ -84,7 +84,7 @@ impl Report {
         self.add_difference(lines.as_str())
     }
 
-    /// Adds how the run of a case stands to the flat machine's.
+    /// Adds how the run of a case stands to the reference machine's.
     pub fn add_run(
         &mut self,
         alloc: Global,

@@ -27,7 +27,7 @@ fn words<'a>(alloc: Global, line: &'a str) -> Result<Vec<&'a str>, Trouble> {
     Ok(line.split_whitespace().collect(alloc)?)
 }
 
-/// The mail that these words name: who sent it, and its number among the mails of that sender, from 0.
+/// The message that these words name: who sent it, and its number among the messages of that sender, from 0.
 fn mail(words: &[&str]) -> Result<MailId, Trouble> {
     let Some((count, sender)) = words.split_last() else {
         return Err(Trouble::Form(BadForm::NoEvent));

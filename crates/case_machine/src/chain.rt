@@ -10,8 +10,8 @@ use std::str;
 /// The greatest number of events of which all chains are tried: they have 65,536 subsets.
 const MOST_TIMED_EVENTS: usize = 16;
 
-/// An event that came: its actor, its ticks, and which of the run's events handle a mail that was in flight before it and after
-/// it.
+/// An event that came: its actor, its ticks, and which of the run's events handle a message that was in flight before it and
+/// after it.
 #[derive(Drop)]
 struct Came {
     actor: Actor,
@@ -21,7 +21,7 @@ struct Came {
 }
 
 impl Came {
-    /// Whether it sent the mail that the event with this number handles.
+    /// Whether it sent the message that the event with this number handles.
     fn sent(&self, number: usize) -> bool {
         self.before.get(number) == Some(&false) && self.behind.get(number) == Some(&true)
     }
@@ -50,7 +50,7 @@ impl PlaceTicks {
     }
 }
 
-/// Which of the events handle a mail that is in flight.
+/// Which of the events handle a message that is in flight.
 fn in_flight<M: EventMachine>(
     alloc: Global,
     machine: &M,
@@ -66,7 +66,7 @@ fn in_flight<M: EventMachine>(
 /// Makes one of the events, and tells of it.
 ///
 /// # Errors
-/// `NotNow` where it may not come.
+/// `NotNow` where it is not enabled.
 fn come<M: EventMachine>(
     alloc: Global,
     machine: &mut M,
@@ -108,8 +108,8 @@ fn is_next(all: &[Came], earlier: usize, number: usize, actor: Actor) -> bool {
         && other.actor == actor)
 }
 
-/// Whether an event depends on an earlier one: both are the same actor's and no event between them is, or the earlier one sent the
-/// mail that it handles.
+/// Whether an event depends on an earlier one: both are the same actor's and no event between them is, or the earlier one sent
+/// the message that it handles.
 fn depends(all: &[Came], earlier: usize, number: usize) -> bool {
     let (Some(first), Some(event)) = (all.get(earlier), all.get(number)) else {
         return false;
@@ -173,7 +173,7 @@ fn told_time(output: &[u8]) -> Option<u64> {
 /// again; None if there are more than 16 events, which have too many chains.
 ///
 /// # Errors
-/// `NotNow` where an event may not come.
+/// `NotNow` where an event is not enabled.
 pub fn is_slowest<M: EventMachine>(
     alloc: Global,
     machine: &mut M,

@@ -26,7 +26,7 @@ fn loads_alike(
     Ok(are_loads(alloc, loads.as_slice(), tasks)?)
 }
 
-/// Compares a run of a program on the machine of these options with the flat machine's run by its grants.
+/// Compares a run of a program on the machine of these options with the reference machine's run by its grants.
 fn compared(
     alloc: Global,
     checked: Checked,
@@ -48,7 +48,7 @@ fn compared(
     Ok(Comparison::Agrees)
 }
 
-/// Compares the run of a case with the flat machine's run by its grants; None where the case has no text of its own to run.
+/// Compares the run of a case with the reference machine's run by its grants; None where the case has no text of its own to run.
 pub fn compare(alloc: Global, case: &Case, run: &RunRecord) -> Result<Option<Comparison>, Trouble> {
     let options = options_of(alloc, case)?;
     if options.mode != Mode::Run {

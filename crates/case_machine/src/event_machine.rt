@@ -6,19 +6,19 @@ use rv_core::TaskEnd;
 
 /// A machine that makes one event at a time, each as it is asked.
 pub trait EventMachine {
-    /// Whether an event may come.
+    /// Whether an event is enabled.
     fn may_come(&self, event: &Event) -> bool;
 
     /// The actor that makes an event.
     ///
     /// # Errors
-    /// `NotNow` where it may not come.
+    /// `NotNow` where it is not enabled.
     fn actor(&self, event: &Event) -> Result<Actor, Trouble>;
 
     /// Makes an event.
     ///
     /// # Errors
-    /// `NotNow` where it may not come.
+    /// `NotNow` where it is not enabled.
     fn make(&mut self, event: Event) -> Result<Stepped, Trouble>;
 
     /// How the task of a core stands, where there is one.
@@ -27,6 +27,6 @@ pub trait EventMachine {
     /// The value of a data word.
     fn word(&self, word: WordId) -> u32;
 
-    /// Whether no event may come any more.
+    /// Whether no event is enabled any more.
     fn is_over(&self) -> bool;
 }

@@ -8,8 +8,8 @@ use dn_machine::RunRecord;
 use message_net::Event;
 use std::alloc::Global;
 
-/// Adds what the program answered in a case: whether it is what the case wants, how its run stands to the flat machine's, and
-/// whether its time is that of the slowest chain.
+/// Adds what the program answered in a case: whether it is what the case wants, how its run stands to the reference machine's,
+/// and whether its time is that of the slowest chain.
 pub fn judge(
     alloc: Global,
     label: &str,
@@ -29,7 +29,7 @@ pub fn judge(
     Ok(())
 }
 
-/// Compares the run of a case with the flat machine's by its grants.
+/// Compares the run of a case with the reference machine's by its grants.
 fn judge_run(
     alloc: Global,
     label: &str,

@@ -45,7 +45,7 @@ impl Replay {
 /// The loads of the events of a run, which the initial machine makes once more.
 ///
 /// # Errors
-/// `NotNow` where an event may not come.
+/// `NotNow` where an event is not enabled.
 pub fn replayed<M: EventMachine>(
     alloc: Global,
     machine: &mut M,

@@ -104,7 +104,7 @@ impl<M: EventMachine + Drop> ScriptedRun<M> {
         }
     }
 
-    /// Makes an event, where it may come, and notes what it tells.
+    /// Makes an event, where it is enabled, and notes what it tells.
     fn come(&mut self, event: Event) -> Result<(), Trouble> {
         if let Event::Arrive(core) = event {
             if let Some(end) = self.machine.task_end(core) {
@@ -138,7 +138,7 @@ impl<M: EventMachine + Drop> ScriptedRun<M> {
         Ok(memory)
     }
 
-    /// The run in which no event may come any more.
+    /// The run in which no event is enabled any more.
     fn finish(mut self) -> Result<Played, Trouble> {
         if !self.machine.is_over() {
             return Err(Trouble::Form(BadForm::NotOver));
@@ -169,7 +169,7 @@ fn written(alloc: Global, notes: &Notes, ending: &Ending) -> Result<Written, Tro
     })
 }
 
-/// Makes the events of a script, after which no event may come.
+/// Makes the events of a script, after which no event is enabled.
 ///
 /// # Errors
 /// The line of the script at which the run stops, and why.

@@ -12,10 +12,10 @@ use rv_core::TaskEnd;
 /// The most events of a machine.
 const MOST_EVENTS: u64 = 4_000_000_000;
 
-/// An event may not come here.
+/// An event is not enabled here.
 const NOT_NOW: Trouble = Trouble::Form(BadForm::NotNow);
 
-/// Makes an event, where it may come.
+/// Makes an event, where it is enabled.
 fn make(machine: &mut Machine, event: Event) -> Result<Stepped, Trouble>
     ensures may { OnOk result (enabled machine.old.state event ≡ true) }
     ensures comes { OnOk result (machine.new.state ≡ next machine.old.state event) }

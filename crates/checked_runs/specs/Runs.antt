@@ -1,6 +1,7 @@
 -- A run of a checked program on the multicore machine: what is promised of it, and how it is printed.
 use Rattle.std.specs.Prelude.{◌≡◌, ℕ, ◌<◌, ◌≤◌, List, [], length, sum, Option, Some}
 use Rattle.std.specs.Option.{option_map}
+use Rattle.dn_base.specs.declared.limits.TheConstants.{MOST_WORDS}
 use Rattle.dn_base.specs.declared.ids.Shape.{Shape}
 use Rattle.region_table.specs.Program.{ProgramParts}
 use Rattle.rv_core.specs.declared.ending.Ending.{Ending}
@@ -65,6 +66,6 @@ summed_up r = summary_of r.ending
 
 -- a run with no more words, tasks and events than can be printed
 pub record IsPrintable (r : RunRecord) : Type 0 where
-  pub words : length r.ending.memory ≤ 65536
+  pub words : length r.ending.memory ≤ MOST_WORDS
   pub tasks : length r.ending.tasks ≤ 64
   pub events : sum r.counts.kinds < 18446744073709551616

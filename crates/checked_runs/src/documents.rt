@@ -1,4 +1,4 @@
-//! From a document to the run that it tells.
+//! From a trace to the run that it tells.
 ghost use Rattle.std.specs.Prelude.{◌≡◌, ◌≢◌, IfOk, IfErr};
 ghost use Rattle.run_report.specs.Texts.{IsStop};
 ghost use Rattle.run_replay.specs.declared.trace.TraceFault.TheVariants.{Memory as NoMemory};
@@ -18,8 +18,8 @@ use run_replay::{
 use run_report::Stop;
 use std::alloc::Global;
 
-/// The refusal of a document for this reason, which isn't out of memory: `Refused` with its line, or `Memory` if there is no
-/// room for that.
+/// The refusal of a trace for this reason, which isn't out of memory: `Refused` with its line, or `Memory` if there is no room
+/// for that.
 fn refused_trace(alloc: Global, why: &TraceRefusal) -> Stop
     requires { why.now ≢ OfFault NoMemory }
     ensures { IsStop (λ line. line ≡ refusal_text why.now) result }
@@ -30,10 +30,10 @@ fn refused_trace(alloc: Global, why: &TraceRefusal) -> Stop
     }
 }
 
-/// What a document tells: the machine's size and the fuel, the text, and the events.
+/// What a trace tells: the machine's size and the fuel, the text, and the events.
 ///
 /// # Errors
-/// `Refused` with the line of the document's first fault, and `Memory` where there is no room.
+/// `Refused` with the line of the trace's first fault, and `Memory` where there is no room.
 pub fn trace_in(alloc: Global, document: &[u8]) -> Result<Trace, Stop>
     ensures ok { IfOk result (IsDocument document.now) }
     ensures stop { IfErr result (IsStop (IsNoDocument document.now)) }
@@ -45,7 +45,7 @@ pub fn trace_in(alloc: Global, document: &[u8]) -> Result<Trace, Stop>
     }
 }
 
-/// The shape of a program's machine, in the size that a document tells.
+/// The shape of a program's machine, in the size that a trace tells.
 pub fn shape_told(sizes: TraceShape, program: &Program) -> Shape
     ensures { result ≡ shape_told program.now sizes }
 {
@@ -57,7 +57,7 @@ pub fn shape_told(sizes: TraceShape, program: &Program) -> Shape
     }
 }
 
-/// The run of a document: its events are made again on the machine of the document's checked program.
+/// The run of a trace: its events are made again on the machine of the trace's checked program.
 ///
 /// The run has few enough words, tasks and events to be printed.
 ///

@@ -1,4 +1,4 @@
-//! Laws: what holds of every run. A law is a function without effect; its contract states the theorem.
+//! Theorems: what holds of every run. A theorem is a function without effect; its contract states the theorem.
 ghost use Rattle.std.specs.Prelude.{◌≡◌, ℕ, List, [], Some};
 ghost use Rattle.dn_base.specs.declared.ids.Grant.{Grant};
 ghost use Rattle.dn_base.specs.declared.ids.Shape.{Shape};

@@ -1,5 +1,5 @@
 //! What is promised of the run of a checked program on the multicore machine, however its events were picked, and the run that a
-//! document tells.
+//! trace tells.
 #![tactic(auto)]
 
 mod documents;

@@ -61,7 +61,7 @@ fn order(alloc: Global, bytes: &[u8]) -> Result<GrantOrder, ClaimFault>
     Ok(GrantOrder { question, grants })
 }
 
-/// The question that a document tells: the first three parts of a claim, alone.
+/// The question that a run log tells: the first three parts of a claim, alone.
 ///
 /// # Errors
 /// `TooLarge`, `Head` or `Behind` exactly if that is the fault of the bytes, and `Memory` if there is no room. `TooLarge` and
@@ -77,7 +77,7 @@ pub fn read_question(alloc: Global, bytes: &[u8]) -> Result<Question, ClaimFault
     question(alloc, bytes)
 }
 
-/// The question and the order of the grants that a document tells: the first four parts of a claim, alone.
+/// The question and the order of the grants that a run log tells: the first four parts of a claim, alone.
 ///
 /// The memory is proportional to the number of bytes, whatever numbers they tell.
 ///

@@ -82,7 +82,7 @@ impl<T: Drop> From<AllocFailed<T>> for ClaimFault {
     }
 }
 
-/// Why the document of a claim isn't written.
+/// Why the run log of a claim isn't written.
 #[derive(Clone, Copy)]
 pub enum ClaimTextError {
     /// It would have more than 536,870,912 bytes.

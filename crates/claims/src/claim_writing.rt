@@ -5,7 +5,7 @@ ghost use Rattle.claims.specs.Claim.{IsQuestion, IsGrant, IsTaskHead, IsTask, Is
 use crate::claim::{Claim, ClaimTextError, Question};
 use crate::limits::{grants_fit, loads_fit, told};
 use crate::rows::TaskHead;
-use dn_base::{Grant, LoadSeen, MOST_OF_DOCUMENT, Memory, Sequence};
+use dn_base::{Grant, LoadSeen, MOST_OF_DOCUMENT, MOST_OF_TEXT, Memory, Sequence};
 use flat_machine::TaskLoads;
 use std::alloc::Global;
 use text_pieces::{push, push_field, push_hexadecimal, push_source};
@@ -20,7 +20,7 @@ fn push_title(out: &mut Vec<u8>) -> Result<(), Memory>
 /// Adds what is claimed of.
 #[tactic(auto, unfolding(crate::specs::Claim::question_text))]
 fn push_question(out: &mut Vec<u8>, question: &Question) -> Result<(), Memory>
-    requires { length question.now.text ≤ 1048576 }
+    requires { length question.now.text ≤ MOST_OF_TEXT }
     ensures { OnOk result (out.new.items ≡ out.old.items ++ question_text question.now) }
 {
     push_title(out)?;
@@ -149,7 +149,7 @@ fn push_loads_part(
 /// Adds what stands before this many grants.
 #[tactic(auto, unfolding(crate::specs::Claim::head_text))]
 fn push_head(out: &mut Vec<u8>, question: &Question, count: u32) -> Result<(), Memory>
-    requires { length question.now.text ≤ 1048576 }
+    requires { length question.now.text ≤ MOST_OF_TEXT }
     ensures { OnOk result (out.new.items ≡ out.old.items ++ head_text (record { question = question.now; count = count })) }
 {
     push_question(out, question)?;
@@ -162,7 +162,7 @@ fn push_head(out: &mut Vec<u8>, question: &Question, count: u32) -> Result<(), M
 /// `TooLarge` where a number of lines is too large to be told, and `Memory`.
 #[tactic(auto, unfolding(crate::specs::Claim::claim_text))]
 fn write(alloc: Global, claim: &Claim) -> Result<Vec<u8>, ClaimTextError>
-    requires { length claim.now.question.text ≤ 1048576 }
+    requires { length claim.now.question.text ≤ MOST_OF_TEXT }
     ensures text { IfOk result (λ document. document.items ≡ text_of claim.now) }
     ensures fits { IfOk result (λ document. IsQuestion claim.now.question → IsClaim claim.now) }
     ensures large { IfErr result (λ error. error ≡ TextTooLarge → most_bytes < length (text_of claim.now)) }
@@ -175,7 +175,7 @@ fn write(alloc: Global, claim: &Claim) -> Result<Vec<u8>, ClaimTextError>
     Ok(out)
 }
 
-/// Looks that a document isn't larger than one may be.
+/// Looks that a run log isn't larger than one may be.
 ///
 /// # Errors
 /// `TooLarge` exactly where it is.
@@ -189,17 +189,17 @@ fn within_limit(document: &[u8]) -> Result<(), ClaimTextError>
     Ok(())
 }
 
-/// The document of a claim. Its first lines tell the fuel and the source text. Then come a line for each grant, the loads task
-/// by task or the line that says that none are claimed, and the answer as it is. Numbers are decimal, without leading zeros;
-/// values are in eight hexadecimal digits.
+/// The run log of a claim. Its first lines tell the fuel and the source text. Then come a line for each grant, the loads task by
+/// task or the line that says that none are claimed, and the answer as it is. Numbers are decimal, without leading zeros; values
+/// are in eight hexadecimal digits.
 ///
 /// The text must have at most 1,048,576 bytes. If the fuel is from 1 to 32,768, `read_claim` gives the claim again.
 ///
 /// # Errors
-/// `TooLarge` if the document would have more than 536,870,912 bytes, and `Memory` if there is no room for it. If both are
-/// true, either may be returned.
+/// `TooLarge` if the run log would have more than 536,870,912 bytes, and `Memory` if there is no room for it. If both are true,
+/// either may be returned.
 pub fn claim_text(alloc: Global, claim: &Claim) -> Result<Vec<u8>, ClaimTextError>
-    requires { length claim.now.question.text ≤ 1048576 }
+    requires { length claim.now.question.text ≤ MOST_OF_TEXT }
     ensures text { IfOk result (λ document. document.items ≡ text_of claim.now) }
     ensures document { IfOk result (λ document. IsQuestion claim.now.question → IsClaimDocument document.items claim.now) }
     ensures large { IfErr result (λ error. error ≡ TextTooLarge → most_bytes < length (text_of claim.now)) }

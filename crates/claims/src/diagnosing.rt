@@ -213,8 +213,8 @@ fn diagnose_tasks(claimed: &[TaskLoads], right: &[TaskLoads]) -> Diagnosis
 
 /// What leads from the verdict on a claim to the fault.
 ///
-/// The claim must be within the limits of a document, and this must be its verdict. It isn't checked that the program is that of
-/// the question's text. Where the claim differs, the program runs once more.
+/// The claim must be within the limits of a run log, and this must be its verdict. It isn't checked that the program is that of the
+/// question's text. Where the claim differs, the program runs once more.
 ///
 /// # Errors
 /// `Memory` where there is no room for the run, its loads and stores, or a line of the answer.

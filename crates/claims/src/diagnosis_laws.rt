@@ -1,4 +1,4 @@
-//! Laws of diagnoses. A law is a function without effect; its contract states the theorem.
+//! Theorems of diagnoses. A theorem is a function without effect; its contract states the theorem.
 ghost use Rattle.std.specs.Prelude.{◌≡◌, ℕ, List, Some, None};
 ghost use Rattle.std.specs.List.{All};
 ghost use Rattle.flat_machine.specs.declared.accesses.FlatAccess.{FlatAccess as AccessOf};

@@ -1,11 +1,11 @@
-//! Laws of the definitions, for proofs about claims.
+//! Theorems of the definitions, for proofs about claims.
 ghost use Rattle.std.specs.Prelude.{◌≡◌, ℕ, List};
 ghost use Rattle.claims.specs.declared.claim.Claim.{Claim as ClaimOf};
 ghost use Rattle.claims.specs.declared.claim.ClaimFault.{ClaimFault as FaultOf};
 ghost use Rattle.claims.specs.Claim.{IsClaimDocument};
 ghost use Rattle.claims.specs.Faults.{HasFault};
 
-/// Bytes are the document of at most one claim.
+/// Bytes are the run log of at most one claim.
 pub fn a_document_is_of_one_claim()
     ensures { (bytes : List ℕ) (c d : ClaimOf) → IsClaimDocument bytes c → IsClaimDocument bytes d → c ≡ d }
 {}

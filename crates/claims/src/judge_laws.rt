@@ -1,4 +1,4 @@
-//! Laws of the definitions, for proofs about claims and their verdicts.
+//! Theorems of the definitions, for proofs about claims and their verdicts.
 ghost use Rattle.std.specs.Prelude.{◌≡◌, ◌↔◌, ℕ, List};
 ghost use Rattle.dn_base.specs.declared.ids.Grant.{Grant as GrantOf};
 ghost use Rattle.region_table.specs.Program.{ProgramParts};
@@ -27,7 +27,7 @@ pub fn a_right_claim_agrees()
     ensures { (P : ProgramParts) (q : QuestionOf) (gs : List GrantOf) (c : ClaimOf) → IsRightClaim P q gs c → IsVerdict P c SaysAgrees }
 {}
 
-/// The claim of a document can be judged.
+/// The claim of a run log can be judged.
 pub fn a_claim_of_a_document_can_be_judged()
     ensures { (bytes : List ℕ) (c : ClaimOf) → IsClaimDocument bytes c → IsJudgeable c }
 {}

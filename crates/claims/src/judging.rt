@@ -6,7 +6,7 @@ ghost use Rattle.claims.specs.Judge.{IsJudgeable, task_verdict, tasks_verdict, l
 use crate::alike::first_difference;
 use crate::lines::{line_of_number, newlines_before};
 use crate::{Claim, LoadPlace, Verdict};
-use dn_base::{Memory, Sequence};
+use dn_base::{MOST_OF_DOCUMENT, MOST_WORDS, Memory, Sequence};
 use effect_checker::Checked;
 use flat_machine::{FlatEnd, FlatRun, TaskLoads, flat_run};
 use run_report::answer_text;
@@ -65,7 +65,7 @@ fn judge_loads(claimed: &Option<Sequence<TaskLoads>>, right: &[TaskLoads]) -> Op
 /// `Memory` where there is no room for the right line.
 #[tactic(auto, unfolding(crate::specs::Judge::answer_verdict))]
 pub fn judge_answer(alloc: Global, claimed: &[u8], right: &[u8]) -> Result<Verdict, Memory>
-    requires { length claimed.now ≤ 536870912 }
+    requires { length claimed.now ≤ MOST_OF_DOCUMENT }
     ensures { IfOk result (λ verdict. verdict ≡ answer_verdict claimed.now right.now) }
 {
     let Some(place) = first_difference(claimed, right) else {
@@ -83,7 +83,7 @@ pub fn judge_answer(alloc: Global, claimed: &[u8], right: &[u8]) -> Result<Verdi
 #[tactic(auto, unfolding(crate::specs::Judge::end_verdict))]
 fn judge_end(alloc: Global, claim: &Claim, end: &FlatEnd) -> Result<Verdict, Memory>
     requires claim { IsJudgeable claim.now }
-    requires words { length end.now.ending.memory ≤ 65536 }
+    requires words { length end.now.ending.memory ≤ MOST_WORDS }
     requires tasks { length end.now.ending.tasks ≤ 64 }
     ensures { IfOk result (λ verdict. verdict ≡ end_verdict claim.now end.now) }
 {
@@ -96,7 +96,7 @@ fn judge_end(alloc: Global, claim: &Claim, end: &FlatEnd) -> Result<Verdict, Mem
 
 /// The verdict on a claim of the run of a checked program, with the fuel of the claim's question.
 ///
-/// The claim must be within the limits of a document. It isn't checked that the program is that of the question's text.
+/// The claim must be within the limits of a run log. It isn't checked that the program is that of the question's text.
 ///
 /// The first of these that is true of the claim is the verdict: a grant isn't legal; loads are claimed, and not of the tasks
 /// that started; a load is wrong; the answer is wrong. Otherwise the claim agrees.

@@ -1,5 +1,5 @@
-//! The claim of a run by another simulator: its document, the judge who compares it with the run of one thread on one memory, and the
-//! judge's verdict.
+//! The claim of a run by another simulator: its run log, the judge who compares it with the run of one thread on one memory, and
+//! the judge's verdict.
 #![tactic(auto)]
 
 mod alike;

@@ -1,11 +1,11 @@
-//! Why the numbers of a claim are within the limits of a document: by their types.
+//! Why the numbers of a claim are within the limits of a run log: by their types.
 ghost use Rattle.std.specs.Prelude.{◌≡◌, ◌<◌, All, IfOk, IfErr};
 ghost use Rattle.claims.specs.Claim.{IsNumber, IsGrant, IsLoad, most_bytes};
 
 use crate::claim::ClaimTextError;
 use dn_base::{Grant, LoadSeen};
 
-/// The number of lines, as a document tells it in 32 bits.
+/// The number of lines, as a run log tells it in 32 bits.
 ///
 /// # Errors
 /// `TooLarge` if there are 2^32 or more: each line has at least a byte, so no document has room for that many.

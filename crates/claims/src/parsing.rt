@@ -38,7 +38,7 @@ fn put_loads<'a>(
     Ok(rest)
 }
 
-/// What a document claims, or the fault of the bytes.
+/// What a run log claims, or the fault of the bytes.
 fn read(alloc: Global, bytes: &[u8]) -> Result<Claim, ClaimFault>
     ensures ok { IfOk result (IsClaimDocument bytes.now) }
     ensures err { IfErr result (λ f. f ≢ NoMemory → HasFault bytes.now f) }
@@ -69,7 +69,7 @@ fn read(alloc: Global, bytes: &[u8]) -> Result<Claim, ClaimFault>
     })
 }
 
-/// The claim that a document tells.
+/// The claim that a run log tells.
 ///
 /// The memory is proportional to the number of bytes, whatever numbers they tell.
 ///

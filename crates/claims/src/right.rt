@@ -2,7 +2,7 @@ ghost use Rattle.std.specs.Prelude.{◌≡◌, ◌≤◌, length, IfOk};
 ghost use Rattle.claims.specs.Right.{claim_of_run, IsRightBy, IsLeastClaim};
 
 use crate::{Claim, Question};
-use dn_base::{Grant, Memory, Sequence};
+use dn_base::{Grant, MOST_WORDS, Memory, Sequence};
 use effect_checker::Checked;
 use flat_machine::{FlatEnd, FlatRun, flat_run, least_run};
 use run_report::answer_text;
@@ -11,7 +11,7 @@ use std::alloc::Global;
 /// The result of a list of grants, as a claim.
 #[derive(Drop)]
 pub enum RightClaim {
-    /// The list is legal and whole, and this is the claim of the run by it, with all its loads.
+    /// The list is legal and maximal, and this is the claim of the run by it, with all its loads.
     Whole(Claim),
     /// The first grant that isn't legal is the one at this index, from 0. The index after the last grant says that at the end
     /// of the list some task waits for a free lock.
@@ -28,7 +28,7 @@ fn claim_of(
     grants: Vec<Grant>,
     end: FlatEnd,
 ) -> Result<Claim, Memory>
-    requires words { length end.ending.memory ≤ 65536 }
+    requires words { length end.ending.memory ≤ MOST_WORDS }
     requires tasks { length end.ending.tasks ≤ 64 }
     ensures { IfOk result (λ claim. claim ≡ claim_of_run question grants.items end) }
 {
@@ -67,7 +67,7 @@ pub fn right_claim(
     }
 }
 
-/// The claim of the run of a checked program by the least list of grants, with all its loads.
+/// The claim of the run of a checked program by the canonical list of grants, with all its loads.
 ///
 /// The question's fuel must be from 1 to 32,768. It isn't checked that the program is that of the question's text.
 ///

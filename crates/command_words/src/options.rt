@@ -11,9 +11,9 @@ pub enum Mode {
     List,
     /// Runs the program of the text on one flat memory with one thread. Prints its answer and the grants of locks.
     Flat,
-    /// Runs the program of the text on the cores. Prints the document of the run: the machine's size, the text and the events.
+    /// Runs the program of the text on the cores. Prints the trace: the machine's size, the text and the events.
     Trace,
-    /// Takes the input as the document of a run, and makes its events again. Prints what the mode run prints of that run.
+    /// Takes the input as the trace, and makes its events again. Prints what the mode run prints of that run.
     Replay,
     /// Runs the program of the text on the cores. Prints a summary and the longest chain of dependent events.
     Time,
@@ -21,7 +21,7 @@ pub enum Mode {
     Prove,
 }
 
-/// What the command words ask for. A mode ignores the options that it has no use for.
+/// What the arguments ask for. A mode ignores the options that it has no use for.
 #[derive(Clone, Copy)]
 pub struct Options {
     pub mode: Mode,
@@ -41,7 +41,7 @@ pub struct Options {
     pub size: u32,
     /// Ticks of each event that a core makes by itself, from 1 to 1,000,000.
     pub tick_core: u32,
-    /// Ticks of each event in which a bank handles a mail, from 1 to 1,000,000.
+    /// Ticks of each event in which a bank handles a message, from 1 to 1,000,000.
     pub tick_bank: u32,
     /// Ticks of every other event, from 1 to 1,000,000.
     pub tick_mail: u32,

@@ -10,7 +10,7 @@ use clap::{Arg, ArgAction, ArgMatches, Command};
 use std::alloc::{AllocError, Global};
 use thiserror::Error;
 
-/// Why command words are refused.
+/// Why arguments are refused.
 #[derive(Clone, Copy, Debug, Error)]
 pub enum WordsFault {
     /// The command doesn't take them.

@@ -1,4 +1,4 @@
-//! Laws: what every run of a program has in common. A law is a function without effect; its contract states the theorem.
+//! Theorems: what every run of a program has in common. A theorem is a function without effect; its contract states the theorem.
 ghost use Rattle.std.specs.Prelude.{◌≡◌, ◌↔◌, ◌≢◌, ◌<◌, ◌^◌, ℕ, List, length, map, slice_get, slice_index, slice_index_or, Some, None, true};
 ghost use Rattle.std.specs.List.{IsAmong};
 ghost use Rattle.dn_base.specs.declared.ids.Grant.{Grant};
@@ -45,7 +45,7 @@ pub fn a_word_after_a_phase_is_as_all_sections_say()
         → slice_index_or (after_from 0 rs first) w (known 0) ≡ applied (effects_at rs w) (slice_index_or first w (known 0)) }
 {}
 
-/// One instruction that is no acquire, in a run of the flat machine and of the task alone, keeps that the two fit.
+/// One instruction that is no acquire, in a run of the reference machine and of the task alone, keeps that the two fit.
 pub fn a_step_fits()
     ensures { (S : Setup) (base : ℕ → ℕ) (a : Alone) (r : Started) (m : List ℕ) → IsPhaseTask S m → FitsAlone S base a r m → a.state.end ≡ None → is_settled_next S a ≡ true
         → IsNoAcquire (need_of S.program S.decl S.fuel a.state)
@@ -59,8 +59,9 @@ pub fn a_lock_is_stuck_where_a_circle_leads_back_to_it()
         → (is_on_circle (summaries P fuel p first) lock ≡ true) ↔ IsOnCircle (summaries P fuel p first) lock }
 {}
 
-/// If the answer of a checked program is settled, then for every order of grants, that is every legal and whole list, the flat
-/// machine's run has the outcome of the answer, its ends of tasks, and the value of each word that is known. No such run is stuck.
+/// If the answer of a checked program is settled, then for every order of grants, that is every legal and whole list, the
+/// reference machine's run has the outcome of the answer, its ends of tasks, and the value of each word that is known. No such
+/// run is stuck.
 pub fn every_order_of_grants_has_what_is_common()
     ensures common { (P : ProgramParts) (fuel : ℕ) (common : Common) (gs : List Grant) (e : FlatEnd) → IsProgram P → HasWords P → IsChecked P → outcomes P fuel ≡ Settled common
         → flat_end P fuel gs ≡ Some e → IsCommonTo common e.ending }
@@ -78,7 +79,7 @@ pub fn every_complete_run_has_what_is_common()
         → IsCompleteRun (initial_state C) events → (ending_of_run (initial_state C) events).outcome ≢ Stuck }
 {}
 
-/// Without locks the answer of a checked program is settled, each word is known, and it is the end of the flat machine's run
+/// Without locks the answer of a checked program is settled, each word is known, and it is the end of the reference machine's run
 /// without grants.
 pub fn without_locks_nothing_varies()
     ensures { (P : ProgramParts) (fuel : ℕ) → IsProgram P → HasWords P → IsChecked P → length P.locks ≡ 0 → HasOneEnd P fuel }

@@ -1,4 +1,5 @@
-//! Laws: what the referee says of the claims of runs. A law is a function without effect; its contract states the theorem.
+//! Theorems: what the referee says of the claims of runs. A theorem is a function without effect; its contract states the
+//! theorem.
 ghost use Rattle.std.specs.Prelude.{◌≡◌, ◌++◌, ℕ, true, List, is_some};
 ghost use Rattle.dn_base.specs.declared.ids.Shape.{Shape};
 ghost use Rattle.region_table.specs.Program.{ProgramParts};
@@ -24,8 +25,7 @@ ghost use Rattle.companion_laws.specs.Claims.{IsClaimOf, IsClaimOfRun};
 ghost use Rattle.companion_laws.specs.HandedBack.{IsClaimOfRecord, claims_run_in, HandedBack};
 
 /// The claim of any complete run of the multicore machine agrees: its grants, the loads of its events, task by task, and its
-/// answer, for all shapes of the machine and all orders of events. The judge says so of the claim, and the referee of its
-/// document.
+/// answer, for all shapes of the machine and all orders of events. The judge says so of the claim, and the referee of its run log.
 pub fn the_claim_of_any_run_agrees()
     ensures verdict { (C : Setting) (events : List Event) (c : Claim) → IsClaimOf C events c → IsVerdict C.program c Agrees }
     ensures answer { (document : List ℕ) (out : Reply) → IsClaimOfRun document → IsAnswer Judge document out → out ≡ verdict_reply Agrees }

@@ -1,4 +1,4 @@
-//! Laws: what explain does with the answers of denovo, and whom it names as the holder of a lock. Their contracts state the
+//! Theorems: what explain does with the answers of denovo, and whom it names as the holder of a lock. Their contracts state the
 //! theorems.
 ghost use Rattle.std.specs.Prelude.{◌≡◌, ◌≤◌, ℕ, List, Some, length};
 ghost use Rattle.std.specs.List.{IsAmong};
@@ -27,22 +27,23 @@ ghost use Rattle.text_places.specs.declared.places.Located.{Located};
 ghost use Rattle.companion_laws.specs.Holding.{HasHolder, IsReportExplained};
 ghost use Rattle.companion_laws.specs.Taken.{IsTaken, is_beside, IsCallTaken};
 
+use dn_base::MOST_OF_DOCUMENT;
 use dn_top::the_output_is_a_function_of_source_and_options;
 
-/// Explain takes every answer of denovo, if it is given the answer and its text: the answer is explained or repeated, and none
-/// of its lines is refused. The text is the one that denovo was asked about, in the mode work the generated one, and in the
-/// mode replay the text of the document. With an answer that refuses the bytes as no document, any text will do.
+/// Explain takes every answer of denovo, if it is given the answer and its text: the answer is explained or repeated, and none of
+/// its lines is refused. The text is the one that denovo was asked about, in the mode work the generated one, and in the mode
+/// replay the text of the trace. With an answer that refuses the bytes as no document, any text will do.
 ///
-/// The clause `answer` says this of each answer to options and a text, in all nine modes, whether the text is refused or not.
-/// The clause `output` says it of what `explain_top::answer` gives, with the exit code 0, if the answer has no more bytes than
-/// are looked at. The clause `call` says it of a call of `dn_top::denovo_main` with these words that ended with the exit code
-/// of an outcome or of a refusal of its text: what the sink took is such an answer. The clause `usage` says it of the line that
-/// refuses command words.
+/// The clause `answer` says this of each answer to options and a text, in all nine modes, whether the text is refused or not. The
+/// clause `output` says it of what `explain_top::answer` gives, with the exit code 0, if the answer has no more bytes than are
+/// looked at. The clause `call` says it of a call of `dn_top::denovo_main` with these words that ended with the exit code of an
+/// outcome or of a refusal of its text: what the sink took is such an answer. The clause `usage` says it of the line that refuses
+/// arguments.
 pub fn every_answer_of_denovo_is_taken()
     ensures answer { (o : Options) (asked : List ℕ) (out : Output) (text : List ℕ) (e : Explained) → OptionsInRange o → IsAnswer o asked out
         → is_beside o.mode asked text → IsExplained text out.bytes e → IsTaken e }
     ensures output { (o : Options) (asked : List ℕ) (out : Output) (text : List ℕ) (explanation : Explanation) → OptionsInRange o → IsAnswer o asked out
-        → is_beside o.mode asked text → length out.bytes ≤ 536870912 → IsOutput text out.bytes explanation → explanation.status ≡ Done }
+        → is_beside o.mode asked text → length out.bytes ≤ MOST_OF_DOCUMENT → IsOutput text out.bytes explanation → explanation.status ≡ Done }
     ensures call { (words : List Text) (o : Options) (asked : List ℕ) (call : Call) → options_of words ≡ Some o → IsTextAnswered o asked call → IsCallTaken o asked call }
     ensures usage { (text : List ℕ) (e : Explained) → IsExplained text usage_line e → IsTaken e }
 {
@@ -53,9 +54,9 @@ pub fn every_answer_of_denovo_is_taken()
 /// If a task waits for a lock at the end of a run, the core to which the lock was granted last holds it: that core has a task
 /// in the same phase, and this task holds the lock. Explain names that core, so it names the holder.
 ///
-/// The clause `flat` says this of each run of the flat machine by grants, and the clause `run` of each run of the multicore
-/// machine of which dn_top's `IsRunOf` is true. The clause `named` says that explain's sentences after the lines of such a
-/// run's report follow the grants of the run.
+/// The clause `flat` says this of each run of the reference machine by grants, and the clause `run` of each run of the multicore
+/// machine of which dn_top's `IsRunOf` is true. The clause `named` says that explain's sentences after the lines of such a run's
+/// report follow the grants of the run.
 pub fn the_core_that_was_granted_a_lock_last_holds_it()
     ensures flat { (P : ProgramParts) (fuel : ℕ) (grants : List Grant) (e : FlatEnd) (t : TaskEnd) (lock : LockId) → IsProgram P → flat_end P fuel grants ≡ Some e
         → IsAmong e.ending.tasks t → t.end ≡ Waits lock → HasHolder P fuel grants t.phase.0 lock.0 }

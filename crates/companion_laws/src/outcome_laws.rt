@@ -1,5 +1,5 @@
-//! Laws: what a run of denovo has in common with all runs of its text. A law is a function without effect; its contract states
-//! the theorem.
+//! Theorems: what a run of denovo has in common with all runs of its text. A theorem is a function without effect; its contract
+//! states the theorem.
 ghost use Rattle.std.specs.Prelude.{◌≡◌, ℕ, List};
 ghost use Rattle.dn_base.specs.declared.ids.Shape.{Shape};
 ghost use Rattle.region_table.specs.Program.{ProgramParts, IsProgram};

@@ -1,4 +1,4 @@
-//! The four programs as C functions, on one thread: command words and what a program reads in memory, to its answer and its exit
+//! The four programs as C functions, on one thread: arguments and what a program reads in memory, to its answer and its exit
 //! code. `include/denovo.h` says what a caller owes.
 #![tactic(auto)]
 
@@ -29,9 +29,9 @@ use served::{answer_denovo, answer_explain};
 use std::alloc::Global;
 use view_top::Viewer;
 
-/// Answers command words and a source, as the program `denovo` does with one worker.
+/// Answers arguments and a source, as the program `denovo` does with one worker.
 ///
-/// `words` holds the command words without the program's name, each ended by a zero byte. `source` is what the program reads. The
+/// `words` holds the arguments without the program's name, each ended by a zero byte. `source` is what the program reads. The
 /// result is the program's exit code, from 0 to 8 and never 6. `written` becomes the length of the answer in bytes, and `out` its
 /// first bytes, as many as fit. An `out` that is too small changes neither the result nor `written`.
 #[unsafe(no_mangle)]
@@ -53,7 +53,7 @@ pub extern "C" fn denovo_answer(
     i32::from(answer.status.code())
 }
 
-/// Answers command words and the document of a run, as the program `view` does. The parameters are those of `denovo_answer`.
+/// Answers arguments and the trace, as the program `view` does. The parameters are those of `denovo_answer`.
 #[unsafe(no_mangle)]
 pub extern "C" fn view_answer(
     alloc: Global,
@@ -67,7 +67,7 @@ pub extern "C" fn view_answer(
     answer_in_memory::<Viewer>(alloc, words, source, out, written)
 }
 
-/// Answers command words and a claim, as the program `referee` does. The parameters are those of `denovo_answer`.
+/// Answers arguments and a claim, as the program `referee` does. The parameters are those of `denovo_answer`.
 #[unsafe(no_mangle)]
 pub extern "C" fn referee_answer(
     alloc: Global,
@@ -81,7 +81,7 @@ pub extern "C" fn referee_answer(
     answer_in_memory::<Referee>(alloc, words, source, out, written)
 }
 
-/// Answers command words, a text and the answer that was printed for it, as the program `explain` does where the words name this
+/// Answers arguments, a text and the answer that was printed for it, as the program `explain` does where the words name this
 /// text: any name stands for it. The other parameters are those of `denovo_answer`.
 #[unsafe(no_mangle)]
 pub extern "C" fn explain_answer(

@@ -18,7 +18,7 @@ mod vec_sink;
 pub use division::{quotient, remainder};
 pub use failure::{Failed, Memory};
 pub use ids::{BankId, CoreId, Grant, LoadSeen, LockId, PhaseId, Shape, WordId};
-pub use limits::{MOST_CORES, MOST_EVENTS, MOST_OF_DOCUMENT, MOST_OF_TEXT};
+pub use limits::{MOST_CORES, MOST_EVENTS, MOST_OF_DOCUMENT, MOST_OF_TEXT, MOST_WORDS};
 pub use name::Name;
 pub use outside::{Gate, OpenGate, Sink, Source};
 pub use sequence::Sequence;

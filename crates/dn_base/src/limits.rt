@@ -3,8 +3,11 @@
 /// The greatest length of a program's text, in bytes.
 pub const MOST_OF_TEXT: usize = 1_048_576;
 
-/// The greatest length of a document, in bytes. The mode trace writes documents, and the mode replay reads them.
+/// The greatest length of a trace, in bytes. The mode trace writes documents, and the mode replay reads them.
 pub const MOST_OF_DOCUMENT: usize = 536_870_912;
+
+/// The greatest number of data words of a program, of all its regions together.
+pub const MOST_WORDS: usize = 65_536;
 
 /// The greatest number of cores of a machine.
 pub const MOST_CORES: usize = 16;

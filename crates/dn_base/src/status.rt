@@ -6,9 +6,9 @@ ghost use Rattle.dn_base.specs.Status.{exit_code_of, status_of};
 pub enum Status {
     /// Every task finished, or the mode runs no program.
     Done = 0,
-    /// The command doesn't take the command words.
+    /// The command doesn't take the arguments.
     Usage = 1,
-    /// The text, or the document of a run, was refused.
+    /// The text, or the trace, was refused.
     SourceRefused = 2,
     /// A task trapped, and no task waits for a lock.
     Trapped = 3,

@@ -1,5 +1,6 @@
 -- The promise of every run of the machine: `IsCoherentRun`.
 use Rattle.std.specs.Prelude.{◌≡◌, ℕ, ◌+◌, ◌*◌, ◌≤◌, List, ◌++◌, length, slice_index, Some, true}
+use Rattle.dn_base.specs.declared.limits.TheConstants.{MOST_EVENTS}
 use Rattle.dn_base.specs.declared.ids.LoadSeen.{LoadSeen}
 use Rattle.message_net.specs.declared.event.Event.{Event}
 use Rattle.grant_log.specs.Counts.{AreCounts}
@@ -51,7 +52,7 @@ AgreesAfter C events = (F : Flat) × IsFrontOf C events F
 -- core in each phase of the program; within the limits of programs and fuel there are at most 25,169,664
 pub record HasFewEvents (S : State) (events : List Event) : Type 0 where
   pub few : length events ≤ 12 * (retired_in S events + started_in S events) + 3 * (S.setting.shape.cores * length S.setting.program.phases)
-  pub most : length events ≤ 25169664
+  pub most : length events ≤ MOST_EVENTS
 
 -- r is the record of a complete run from state S on, however its events were picked; S is the initial machine of a setting
 pub record IsCoherentRun (S : State) (r : RunRecord) : Type 0 where

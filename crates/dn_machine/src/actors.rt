@@ -8,7 +8,7 @@ use crate::machine::Machine;
 use crate::posting::next_number;
 use message_net::{Actor, Event, Mail, MailId, Pool};
 
-/// The mail in flight with this id; there is one.
+/// The message in flight with this id; there is one.
 fn mail_with(pool: &Pool, id: MailId) -> Mail
     requires { 1 ≤ count_of id pool.now.mails }
     ensures { (removed id pool.now.mails).0 ≡ Some result }
@@ -23,8 +23,8 @@ fn mail_with(pool: &Pool, id: MailId) -> Mail
 }
 
 impl Machine {
-    /// The actor that makes an event, which may come: a core makes its own events, and a mail is handled by the actor that it
-    /// goes to.
+    /// The actor that makes an event, which is enabled: a core makes its own events, and a message is handled by the actor that
+    /// it goes to.
     #[tactic(auto, unfolding(crate::specs::Actors::actor_in))]
     pub fn actor(&self, event: &Event) -> Actor
         requires { enabled self.now.state event.now ≡ true }
@@ -38,7 +38,7 @@ impl Machine {
         }
     }
 
-    /// The number of an actor's next mail; the actor is one of the machine's.
+    /// The number of an actor's next message; the actor is one of the machine's.
     pub fn next_mail(&self, actor: Actor) -> u32
         requires { has_actor self.now.state.setting.shape.cores self.now.state.setting.shape.banks actor ≡ true }
         ensures { result ≡ next_number self.now.state actor }

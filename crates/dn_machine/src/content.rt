@@ -5,8 +5,8 @@ use phase_barrier::Keeper;
 use registration_protocol::Node;
 use registry_bank::Bank;
 
-/// What events change in a machine: the nodes, the banks, the keeper, the mails in flight, the number of each actor's next
-/// mail, and the own event of each core, if it has one.
+/// What events change in a machine: the nodes, the banks, the barrier controller, the messages in flight, the number of each
+/// actor's next message, and the own event of each core, if it has one.
 #[derive(Drop)]
 pub(crate) struct Content {
     pub(crate) nodes: Vec<Node>,

@@ -46,7 +46,7 @@ fn may_end(nodes: &[Node], core: CoreId) -> bool
 }
 
 impl Content {
-    /// Makes room for this many more mails.
+    /// Makes room for this many more messages.
     pub(crate) fn reserve(&mut self, more: u32) -> Result<(), Memory>
         ensures state { (C : Setting) → state_of C self.new ≡ state_of C self.old }
         ensures own { self.new.own ≡ self.old.own }
@@ -55,7 +55,7 @@ impl Content {
         self.pool.reserve(more)
     }
 
-    /// Makes room for this many more mails, and has each mail found by its id in constant time from now on.
+    /// Makes room for this many more messages, and has each message found by its id in constant time from now on.
     pub(crate) fn reserve_by_id(&mut self, more: u32) -> Result<(), Memory>
         ensures state { (C : Setting) → state_of C self.new ≡ state_of C self.old }
         ensures own { self.new.own ≡ self.old.own }
@@ -65,7 +65,7 @@ impl Content {
         self.pool.keep_places()
     }
 
-    /// Whether an event may come.
+    /// Whether an event is enabled.
     #[tactic(auto, unfolding(machine_rules::specs::Next::enabled))]
     pub(crate) fn enabled(&self, context: &Context<'_>, event: &Event) -> bool
         requires context { IsContext (setting context.now) }

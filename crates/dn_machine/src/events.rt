@@ -32,7 +32,7 @@ fn silent(kind: EventKind) -> Stepped
 }
 
 impl Content {
-    /// What a core sends is in flight, and what it does next by itself is found anew.
+    /// What a core sends is in flight, and what it does next by itself is found again.
     #[inline(always)]
     fn core_sends(&mut self, context: &Context<'_>, core: CoreId, sent: &Option<Outgoing>)
         requires whole { IsWhole (state_of (setting context.now) self.old) }
@@ -72,8 +72,8 @@ impl Content {
         );
     }
 
-    /// What a core sends that got a mail is in flight, and what it does next by itself is known. A core whose instruction may
-    /// come keeps it, so that it isn't looked for.
+    /// What a core sends that got a message is in flight, and what it does next by itself is known. A core whose instruction is
+    /// enabled keeps it, so that it isn't looked for.
     #[inline(always)]
     fn core_got(&mut self, context: &Context<'_>, core: CoreId, sent: &Option<Outgoing>)
         requires whole { IsWhole (state_of (setting context.now) self.old) }
@@ -243,7 +243,7 @@ impl Content {
         send(&mut self.pool, &mut self.numbers, index, from, &sent);
     }
 
-    /// The keeper gets a message.
+    /// The barrier controller gets a message.
     fn keeper_gets(&mut self, context: &Context<'_>, message: &Message)
         requires whole { IsWhole (state_of (setting context.now) self.old) }
         requires known { KnowsOwn (setting context.now) self.old }
@@ -285,7 +285,7 @@ impl Content {
         }
     }
 
-    /// The mail with this id, which is in flight, is handled by the actor that it goes to.
+    /// The message with this id, which is in flight, is handled by the actor that it goes to.
     pub(crate) fn handle(&mut self, context: &Context<'_>, id: MailId) -> Stepped
         requires whole { IsWhole (state_of (setting context.now) self.old) }
         requires known { KnowsOwn (setting context.now) self.old }
@@ -308,7 +308,7 @@ impl Content {
         }
     }
 
-    /// An event, which may come.
+    /// An event, which is enabled.
     #[inline(always)]
     pub(crate) fn act(&mut self, context: &Context<'_>, event: Event) -> Stepped
         requires whole { IsWhole (state_of (setting context.now) self.old) }

@@ -1,5 +1,5 @@
-//! Laws of picks and of complete runs, for proofs about runs.
-//! A law is a function without effect; its contract states the theorem.
+//! Theorems of picks and of complete runs, for proofs about runs. A theorem is a function without effect; its contract states the
+//! theorem.
 ghost use Rattle.std.specs.Prelude.{◌≡◌, ◌↔◌, ℕ, List, Some, None, true};
 ghost use Rattle.message_net.specs.declared.event.Event.{Event};
 ghost use Rattle.registration_protocol.specs.Node.{Setting};
@@ -12,7 +12,7 @@ ghost use Rattle.dn_machine.specs.Run.{IsRecord, IsCoherentRun};
 ghost use Rattle.dn_machine.specs.Schedule.{IsScheduled};
 ghost use Rattle.dn_machine.specs.declared.record.RunRecord.{RunRecord};
 
-/// A picked event may come, and none is picked exactly if no event may come.
+/// A picked event is enabled, and none is picked exactly if no event is enabled.
 pub fn a_pick_is_an_event_that_may_come()
     ensures comes { (S : State) (draw : ℕ) (e : Event) → IsMachine S → pick S draw ≡ Some e → enabled S e ≡ true }
     ensures none { (S : State) (draw : ℕ) → IsMachine S → (pick S draw ≡ None) ↔ IsOver S }

@@ -1,5 +1,5 @@
-//! The multicore machine as code: the cores' nodes, the banks, the keeper of the barrier, the mails in flight, and the events
-//! that lead from state to state. One thread makes its events; a seed picks them.
+//! The multicore machine as code: the cores' nodes, the banks, the barrier controller of the barrier, the messages in flight, and
+//! the events that lead from state to state. One thread makes its events; a seed picks them.
 #![tactic(auto)]
 
 mod actors;

@@ -98,7 +98,7 @@ fn opened(
 
 impl Machine {
     /// The machine of a checked program when a run begins: each node is in the first phase, the banks hold the initial memory,
-    /// and no mail is in flight. The shape must have as many cores as the program needs, 1 to 16 banks, 1 to 256 sets and 1 to
+    /// and no message is in flight. The shape must have as many cores as the program needs, 1 to 16 banks, 1 to 256 sets and 1 to
     /// 16 ways, and `fuel`, the number of instructions that a task may retire, must be 1 to 32,768.
     ///
     /// # Errors
@@ -160,7 +160,7 @@ impl Machine {
         self.made
     }
 
-    /// Whether an event may come.
+    /// Whether an event is enabled.
     pub fn enabled(&self, event: &Event) -> bool
         ensures { result ≡ enabled self.now.state event.now }
     {
@@ -168,11 +168,11 @@ impl Machine {
         self.content.enabled(&context, event)
     }
 
-    /// Makes an event, which must be one that may come, and gives what it tells. Fewer than 4,000,000,000 events must have come
+    /// Makes an event, which must be one that is enabled, and gives what it tells. Fewer than 4,000,000,000 events must have come
     /// before.
     ///
     /// # Errors
-    /// `Memory` if there is no room for the mails; the machine is as before then.
+    /// `Memory` if there is no room for the messages; the machine is as before then.
     pub fn step(&mut self, event: Event) -> Result<Stepped, Memory>
         requires may { enabled self.old.state event ≡ true }
         requires made { self.old.made < 4000000000 }
@@ -189,8 +189,8 @@ impl Machine {
     }
 
     /// The event that a draw picks. The candidates are each core's own event, in the order of cores, and then the handling of
-    /// each mail, in the order of the pool. The one at the draw, modulo their number, is picked; None exactly if no event may
-    /// come.
+    /// each message, in the order of the pool. The one at the draw, modulo their number, is picked; None exactly if no event is
+    /// enabled.
     #[tactic(auto, unfolding(crate::specs::Pick::pick))]
     pub fn pick(&self, draw: u32) -> Option<Event>
         ensures picked { result ≡ pick self.now.state draw }
@@ -200,8 +200,8 @@ impl Machine {
         pick_from(&self.content.own, &self.content.pool, draw)
     }
 
-    /// The value of a data word: that of its pending entry if a core has one, otherwise the one at its home or in its
-    /// registrant's entry; 0 for any other word.
+    /// The value of a data word: that of its pending entry if a core has one, otherwise the one at its home or in its owner's
+    /// entry; 0 for any other word.
     pub fn word(&self, word: WordId) -> u32
         ensures { result ≡ word_value self.now.state word.0 }
     {
@@ -216,15 +216,15 @@ impl Machine {
         self.content.task_end(core)
     }
 
-    /// Runs the initial machine until no event may come. Each event is the one that the next word of the seed's generator
+    /// Runs the initial machine until no event is enabled. Each event is the one that the next word of the seed's generator
     /// picks.
     ///
-    /// After each event the state is coherent, and its words are the memory to which the stores were applied as they retired.
-    /// The grants so far lead the flat machine to a state in which the loads of each task begin with its loads so far. At the
-    /// end the flat machine's run by the grants has the run's loads and ending.
+    /// After each event the state is coherent, and its words are the memory to which the stores were applied as they retired. The
+    /// grants so far lead the reference machine to a state in which the loads of each task begin with its loads so far. At the
+    /// end the reference machine's run by the grants has the run's loads and ending.
     ///
     /// # Errors
-    /// `Memory` if there is no room for the mails or the record.
+    /// `Memory` if there is no room for the messages or the record.
     pub fn run(self, alloc: Global, seed: u32) -> Result<RunRecord, Memory>
         requires { self.made ≡ 0 }
         ensures { IfOk result (IsSeedsRunOf self.state seed) }
@@ -245,7 +245,7 @@ impl Machine {
     /// again. The program, its plans and its decoded code aren't copied.
     ///
     /// # Errors
-    /// `Memory` if there is no room for what the copy changes, for its mails or the record.
+    /// `Memory` if there is no room for what the copy changes, for its messages or the record.
     pub fn run_copy(&self, alloc: Global, seed: u32) -> Result<RunRecord, Memory>
         ensures { IfOk result (IsSeedsRunOf (initial_state self.now.state.setting) seed) }
     {
@@ -270,7 +270,7 @@ impl Machine {
     }
 }
 
-/// Every machine is left by a run of the initial machine of a checked program, except for the order of its mails. So it has 1
+/// Every machine is left by a run of the initial machine of a checked program, except for the order of its messages. So it has 1
 /// to 16 cores, is sound and coherent, and is the initial one if no event has come.
 pub fn a_machine_is_kept(machine: &Machine)
     ensures { IsKept machine.now.state machine.now.made }

@@ -20,9 +20,9 @@ use registration_protocol::Node;
 use registry_bank::Bank;
 use rv_core::{DecodedCode, DecodedProgram};
 
-/// The parts of a machine, for callers that let its actors work side by side: nodes and banks stand in the order of their numbers,
-/// and `next` has the number of each actor's next mail, of cores, then banks, then the keeper. `code` is the program's code words,
-/// decoded.
+/// The parts of a machine, for callers that let its actors work side by side: nodes and banks stand in the order of their
+/// numbers, and `next` has the number of each actor's next message, of cores, then banks, then the barrier controller. `code` is
+/// the program's code words, decoded.
 #[derive(Drop)]
 pub struct MachineParts {
     pub checked: Checked,
@@ -78,8 +78,8 @@ impl Machine {
     }
 
     /// The machine of these parts. They must be what a run of `made` events leaves of the initial machine of a checked program,
-    /// with the mails in any order, and the program's code words decoded. The law `what_a_run_leaves_is_kept` says what follows
-    /// from that. Takes no memory.
+    /// with the messages in any order, and the program's code words decoded. The theorem `what_a_run_leaves_is_kept` says what
+    /// follows from that. Takes no memory.
     pub fn join(parts: MachineParts) -> Machine
         requires { AreLeftByRun parts }
         ensures { result ≡ made_in parts }
@@ -119,8 +119,8 @@ impl Machine {
     }
 }
 
-/// What a run leaves, with its mails in any order, has all that holds of machines: it is sound and coherent. The same holds
-/// after every further run, and for any order of its mails.
+/// What a run leaves, with its messages in any order, has all that holds of machines: it is sound and coherent. The same holds
+/// after every further run, and for any order of its messages.
 pub fn what_a_run_leaves_is_kept()
     ensures left { (S : State) (made : ℕ) → IsLeftByRun S made → IsKept S made }
     ensures initial { (C : Setting) → IsReady C → IsKept (initial_state C) 0 }

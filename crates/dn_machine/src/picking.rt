@@ -5,7 +5,7 @@ ghost use Rattle.dn_machine.specs.Pick.{known_events, candidates, picked, chosen
 use crate::own_row::OwnRow;
 use message_net::{Event, Pool};
 
-/// What a draw picks: the own event of a core, or the handling of the mail at a place of the pool.
+/// What a draw picks: the own event of a core, or the handling of the message at a place of the pool.
 #[derive(Clone, Copy)]
 pub(crate) enum Choice {
     Own(Event),
@@ -26,7 +26,7 @@ fn place_of(draw: u32, count: u64) -> u32
     }
 }
 
-/// What a draw picks: of the own events and then the handlings of the mails, the one at the draw, modulo their number.
+/// What a draw picks: of the own events and then the handlings of the messages, the one at the draw, modulo their number.
 #[inline(always)]
 pub(crate) fn choose(own: &OwnRow, pool: &Pool, draw: u32) -> Option<Choice>
     ensures picked { chosen pool.now.mails result ≡ picked (candidates own.now pool.now.mails) draw }

@@ -9,7 +9,7 @@ use dn_base::{CoreId, Sequence};
 use message_net::{Actor, Message, Outgoing, Pool};
 use phase_barrier::Verdict;
 
-/// The number of an actor's next mail.
+/// The number of an actor's next message.
 #[inline(always)]
 pub(crate) fn next_number(numbers: &Sequence<u32>, place: usize) -> u32
     requires { place < length numbers.now }
@@ -18,7 +18,7 @@ pub(crate) fn next_number(numbers: &Sequence<u32>, place: usize) -> u32
     numbers.as_slice()[place]
 }
 
-/// The actor at this index may send a message: then a mail with the actor's next number is in flight.
+/// The actor at this index may send a message: then a message with the actor's next number is in flight.
 #[inline(always)]
 pub(crate) fn send(
     pool: &mut Pool,
@@ -42,7 +42,7 @@ pub(crate) fn send(
     }
 }
 
-/// The keeper sends a message to each of `cores` cores, with rising numbers from `first` on.
+/// The barrier controller sends a message to each of `cores` cores, with rising numbers from `first` on.
 pub(crate) fn send_each(pool: &mut Pool, first: u32, cores: u32, message: Message)
     requires few { first + cores < 4294967295 }
     requires new { (number : ℕ) → first ≤ number → count_of (record { sender = TheKeeper; number = number }) pool.old.mails ≡ 0 }
@@ -56,7 +56,7 @@ pub(crate) fn send_each(pool: &mut Pool, first: u32, cores: u32, message: Messag
     }
 }
 
-/// The keeper, which stands at this index, sends its letters to each of `cores` cores, unless the verdict is Wait.
+/// The barrier controller, which stands at this index, sends its letters to each of `cores` cores, unless the verdict is Wait.
 pub(crate) fn send_letters(
     pool: &mut Pool,
     numbers: &mut Sequence<u32>,

@@ -29,21 +29,21 @@ impl Machine {
         &self.content.banks[bank.0 as usize]
     }
 
-    /// The keeper of the barrier.
+    /// The barrier controller of the barrier.
     pub fn keeper(&self) -> &Keeper
         ensures { result.now ≡ self.now.state.keeper }
     {
         &self.content.keeper
     }
 
-    /// The mails in flight.
+    /// The messages in flight.
     pub fn pool(&self) -> &Pool
         ensures { result.now.mails ≡ self.now.state.mails }
     {
         &self.content.pool
     }
 
-    /// The number of each actor's next mail: of the cores, then of the banks, then of the keeper.
+    /// The number of each actor's next message: of the cores, then of the banks, then of the barrier controller.
     pub fn numbers(&self) -> &[u32]
         ensures { result.now ≡ self.now.state.numbers }
     {

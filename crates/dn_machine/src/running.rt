@@ -142,7 +142,7 @@ impl Content {
         Ok(())
     }
 
-    /// Makes and notes the own event of a core, which may come.
+    /// Makes and notes the own event of a core, which is enabled.
     ///
     /// # Errors
     /// `Memory` where there is no room for the log.
@@ -166,7 +166,7 @@ impl Content {
         }
     }
 
-    /// Removes the mail at an index of the pool, makes its handling, and notes it.
+    /// Removes the message at an index of the pool, makes its handling, and notes it.
     ///
     /// # Errors
     /// `Memory` where there is no room for the log.
@@ -196,7 +196,7 @@ impl Content {
         Ok(())
     }
 
-    /// Makes and notes the event that a draw picks, if any event may come. There is room for its mails. Returns whether an
+    /// Makes and notes the event that a draw picks, if any event is enabled. There is room for its messages. Returns whether an
     /// event came.
     ///
     /// # Errors
@@ -227,10 +227,10 @@ impl Content {
         }
     }
 
-    /// Makes and notes the event that a draw picks, if any event may come. Returns whether an event came.
+    /// Makes and notes the event that a draw picks, if any event is enabled. Returns whether an event came.
     ///
     /// # Errors
-    /// `Memory` where there is no room for the mails or the log.
+    /// `Memory` where there is no room for the messages or the log.
     #[inline(always)]
     fn advance(&mut self, context: &Context<'_>, draw: u32, log: &mut Log) -> Result<bool, Memory>
         requires machine { IsMachine (state_of (setting context.now) self.old) }
@@ -247,10 +247,10 @@ impl Content {
         self.make(context, draw, log)
     }
 
-    /// Makes and notes the events that the words of a seed pick one after the other, until none may come.
+    /// Makes and notes the events that the words of a seed pick one after the other, until none is enabled.
     ///
     /// # Errors
-    /// `Memory` where there is no room for the mails or the log.
+    /// `Memory` where there is no room for the messages or the log.
     pub(crate) fn run(
         &mut self,
         context: &Context<'_>,
@@ -306,10 +306,10 @@ impl Content {
         self.ending_with(alloc, context, tasks)
     }
 
-    /// Makes and notes the events that the words of a seed pick, until none may come, and gives the ending of that run.
+    /// Makes and notes the events that the words of a seed pick, until none is enabled, and gives the ending of that run.
     ///
     /// # Errors
-    /// `Memory` where there is no room for the mails, the log or the ending.
+    /// `Memory` where there is no room for the messages, the log or the ending.
     fn run_to_end(
         &mut self,
         alloc: Global,
@@ -332,7 +332,7 @@ impl Content {
 /// The record of the run of a seed, from the initial machine, whose content is lent.
 ///
 /// # Errors
-/// `Memory` where there is no room for the mails or the record.
+/// `Memory` where there is no room for the messages or the record.
 fn run_lent(
     alloc: Global,
     context: &Context<'_>,
@@ -353,7 +353,7 @@ fn run_lent(
 /// The record of the run of a seed, from the initial machine.
 ///
 /// # Errors
-/// `Memory` where there is no room for the mails or the record.
+/// `Memory` where there is no room for the messages or the record.
 pub(crate) fn run_from_start(
     alloc: Global,
     context: &Context<'_>,

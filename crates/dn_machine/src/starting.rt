@@ -13,7 +13,7 @@ ghost use Rattle.dn_machine.specs.Content.{state_of, in_row, KnowsOwn};
 use crate::content::Content;
 use crate::own_row::OwnRow;
 use crate::places::own_at;
-use dn_base::{BankId, CoreId, MOST_CORES, Memory, Sequence, Shape};
+use dn_base::{BankId, CoreId, MOST_CORES, MOST_WORDS, Memory, Sequence, Shape};
 use message_net::Pool;
 use phase_barrier::Keeper;
 use region_table::Program;
@@ -71,7 +71,7 @@ fn push_bank(
     requires banks { shape.banks ≤ 16 }
     requires some { 1 ≤ shape.cores }
     requires cores { shape.cores ≤ 16 }
-    requires memory { length memory.now ≤ 65536 }
+    requires memory { length memory.now ≤ MOST_WORDS }
     requires locks { locks ≤ 32 }
     ensures { OnOk result (banks.new.items ≡ banks.old.items ++ initial_bank bank.0 shape.banks shape.cores memory.now locks ∷ []) }
 {
@@ -91,7 +91,7 @@ fn push_banks(
     requires banks { shape.banks ≤ 16 }
     requires some { 1 ≤ shape.cores }
     requires cores { shape.cores ≤ 16 }
-    requires memory { length memory.now ≤ 65536 }
+    requires memory { length memory.now ≤ MOST_WORDS }
     requires locks { locks ≤ 32 }
     ensures { OnOk result (banks.new.items ≡ map (λ (bank : ℕ). initial_bank bank shape.banks shape.cores memory.now locks) (range_with_len 0 shape.banks)) }
 {
@@ -111,7 +111,7 @@ pub(crate) fn new_banks(
     requires banks { shape.banks ≤ 16 }
     requires some { 1 ≤ shape.cores }
     requires cores { shape.cores ≤ 16 }
-    requires memory { length memory.now ≤ 65536 }
+    requires memory { length memory.now ≤ MOST_WORDS }
     requires locks { locks ≤ 32 }
     ensures { IfOk result (λ banks. banks.items ≡ map (λ (bank : ℕ). initial_bank bank shape.banks shape.cores memory.now locks) (range_with_len 0 shape.banks)) }
 {
@@ -123,7 +123,7 @@ pub(crate) fn new_banks(
 /// The initial memory of a program.
 fn memory_of(program: &Program) -> &[u32]
     ensures is { result.now ≡ program.now.memory }
-    ensures most { length result.now ≤ 65536 }
+    ensures most { length result.now ≤ MOST_WORDS }
 {
     program.memory.as_slice()
 }

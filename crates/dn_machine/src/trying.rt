@@ -15,7 +15,7 @@ use message_net::{Actor, Event, MailId};
 use registration_protocol::Context;
 
 impl Content {
-    /// Handles the mail with this id, if one in flight has it. It is looked for once.
+    /// Handles the message with this id, if one in flight has it. It is looked for once.
     fn try_handle(&mut self, context: &Context<'_>, id: MailId) -> Option<(Actor, Stepped)>
         requires whole { IsWhole (state_of (setting context.now) self.old) }
         requires known { KnowsOwn (setting context.now) self.old }
@@ -33,7 +33,7 @@ impl Content {
         Some((mail.to, stepped))
     }
 
-    /// Makes an own event if it may come.
+    /// Makes an own event if it is enabled.
     fn try_own(&mut self, context: &Context<'_>, event: Event) -> Option<Stepped>
         requires whole { IsWhole (state_of (setting context.now) self.old) }
         requires known { KnowsOwn (setting context.now) self.old }
@@ -49,7 +49,7 @@ impl Content {
         Some(self.act(context, event))
     }
 
-    /// Makes an event if it may come, and gives the actor that makes it and what it tells.
+    /// Makes an event if it is enabled, and gives the actor that makes it and what it tells.
     #[tactic(auto, unfolding(crate::specs::Actors::actor_in))]
     pub(crate) fn try_event(
         &mut self,
@@ -74,12 +74,12 @@ impl Content {
 }
 
 impl Machine {
-    /// Makes an event if it may come, and gives the actor that made it and what it tells. None exactly if it may not come; the
-    /// machine is as before then. Fewer than 4,000,000,000 events must have come before. A mail that is handled is found in
-    /// constant time, however many mails are in flight.
+    /// Makes an event if it is enabled, and gives the actor that made it and what it tells. None exactly if it is not enabled;
+    /// the machine is as before then. Fewer than 4,000,000,000 events must have come before. A message that is handled is found
+    /// in constant time, however many messages are in flight.
     ///
     /// # Errors
-    /// `Memory` if there is no room for the mails; the machine is as before then.
+    /// `Memory` if there is no room for the messages; the machine is as before then.
     pub fn try_step(&mut self, event: Event) -> Result<Option<(Actor, Stepped)>, Memory>
         requires made { self.old.made < 4000000000 }
         ensures tried { IfOk result (IsTried self.old.state self.new.state event) }

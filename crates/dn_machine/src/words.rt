@@ -24,7 +24,7 @@ impl Content {
         }
     }
 
-    /// The value that the home of a word holds, or that its registrant's entry has.
+    /// The value that the home of a word holds, or that its owner's entry has.
     fn kept_value(&self, context: &Context<'_>, word: WordId) -> u32
         requires banks { 0 < (setting context.now).shape.banks }
         ensures { result ≡ kept_value (state_of (setting context.now) self.now) word.0 (home_at (state_of (setting context.now) self.now) word.0) }

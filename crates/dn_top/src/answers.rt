@@ -17,7 +17,7 @@ use crate::runs::{report_run, run_alone, sum_up_run, time_text_run};
 use crate::timings::time_alone;
 use crate::workers::run_by_workers;
 use command_words::{Mode, Options};
-use dn_base::{Gate, Memory, Outcome, Status};
+use dn_base::{Gate, MOST_WORDS, Memory, Outcome, Status};
 use effect_checker::Checked;
 use effect_prover::{prove, prove_text};
 use flat_machine::{LeastRun, least_run};
@@ -30,7 +30,7 @@ use std::thread::Threads;
 
 /// The answer of a run on one flat memory, and then its grants.
 fn flat_text(alloc: Global, run: &LeastRun) -> Result<Vec<u8>, Memory>
-    requires words { length run.now.end.ending.memory ≤ 65536 }
+    requires words { length run.now.end.ending.memory ≤ MOST_WORDS }
     requires tasks { length run.now.end.ending.tasks ≤ 64 }
     ensures { IfOk result (λ text. text.items ≡ answer_of run.now.end.ending ++ grant_lines run.now.grants.items) }
 {
@@ -144,7 +144,7 @@ fn sum_up_alone(alloc: Global, options: &Options, text: &[u8]) -> Result<Output,
     Ok(sum_up_run(alloc, run)?)
 }
 
-/// Runs the program of a text on this thread alone, and writes the document of the run.
+/// Runs the program of a text on this thread alone, and writes the trace.
 fn trace_alone(alloc: Global, options: &Options, text: &[u8]) -> Result<Output, Stop>
     requires { OptionsInRange options.now }
     ensures done { IfOk result (λ out. HasChecked text.now (λ P. IsTracedRun P (with_one_worker options.now) text.now out)) }
@@ -207,7 +207,7 @@ fn sum_up_by_workers<R: Threads + Wait + Sync, G: Gate + Sync>(
     Ok(sum_up_run(alloc, run)?)
 }
 
-/// Runs the program of a text by several workers, and writes the document of the run.
+/// Runs the program of a text by several workers, and writes the trace.
 fn trace_by_workers<R: Threads + Wait + Sync, G: Gate + Sync>(
     rt: &R,
     alloc: Global,

@@ -17,7 +17,7 @@ use run_replay::{Trace, TraceShape, trace_text};
 use run_report::{Stop, checked_of};
 use std::alloc::Global;
 
-/// The machine's size and the fuel that the options ask for, as a document tells them.
+/// The machine's size and the fuel that the options ask for, as a trace tells them.
 fn sizes_of(options: &Options) -> TraceShape
     ensures { result ≡ sizes_of options.now }
 {
@@ -29,10 +29,10 @@ fn sizes_of(options: &Options) -> TraceShape
     }
 }
 
-/// Writes the document of a run of a text's program, and hands the run back.
+/// Writes the trace of a text's program, and hands the run back.
 ///
 /// # Errors
-/// `Memory` where there is no room for the document.
+/// `Memory` where there is no room for the trace.
 pub(crate) fn trace_run(
     alloc: Global,
     options: &Options,
@@ -46,7 +46,7 @@ pub(crate) fn trace_run(
     Ok(handed_back(document, run))
 }
 
-/// Makes the events of a document again, and reports the run.
+/// Makes the events of a trace again, and reports the run.
 fn run_again(alloc: Global, trace: Trace, checked: Checked) -> Result<Output, Stop>
     requires { IsTrace trace }
     ensures ok { IfOk result (IsReplayedRun checked trace) }
@@ -56,7 +56,7 @@ fn run_again(alloc: Global, trace: Trace, checked: Checked) -> Result<Output, St
     Ok(report_run(alloc, run)?)
 }
 
-/// Takes a document, and makes its run again. The first fault refuses it: of the bytes, of the text that they tell, or of the
+/// Takes a trace, and makes its run again. The first fault refuses it: of the bytes, of the text that they tell, or of the
 /// events.
 pub(crate) fn replay_document(alloc: Global, document: &[u8]) -> Result<Output, Stop>
     ensures ok { IfOk result (IsReplayed document.now) }

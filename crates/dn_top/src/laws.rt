@@ -1,4 +1,4 @@
-//! Laws: what holds of every run. A law is a function without effect; its contract states the theorem.
+//! Theorems: what holds of every run. A theorem is a function without effect; its contract states the theorem.
 ghost use Rattle.std.specs.Prelude.{◌≡◌, ℕ, List, Some, Ok};
 ghost use Rattle.dn_base.specs.declared.ids.Shape.{Shape};
 ghost use Rattle.region_table.specs.Program.{ProgramParts};
@@ -13,13 +13,13 @@ ghost use Rattle.checked_runs.specs.Runs.{IsRunOf, reported};
 ghost use Rattle.dn_top.specs.Runs.{IsRunFor, output_of_run};
 
 /// If the mode prove has answered `proved inside` to a text, no run of its program has a task that ended by the trap `outside`:
-/// for all shapes of the machine and all fuels, and however the events were picked, by a seed, by workers or from a document.
+/// for all shapes of the machine and all fuels, and however the events were picked, by a seed, by workers or from a trace.
 pub fn a_proven_text_runs_inside()
     ensures { (text : List ℕ) (P : ProgramParts) (machine : Shape) (fuel : ℕ) (r : RunRecord) → IsProvedInside text → source text ≡ Ok P → IsRunOf P machine fuel r → IsTameRun r }
 {}
 
-/// The mode replay answers the document that the mode trace writes of a text's run with the report of that run, and its status.
-/// With one worker that is the answer of the mode run to the text: the same bytes, status and run.
+/// The mode replay answers the trace that the mode trace writes of a text's run with the report of that run, and its status. With
+/// one worker that is the answer of the mode run to the text: the same bytes, status and run.
 pub fn a_trace_replays_as_its_run()
     ensures report { (o p : Options) (text : List ℕ) (document : Output) (run : RunRecord) → done_in Trace o text document → document.run ≡ Some run
         → done_in Run o text (output_of_run (reported run) run) × done_in Replay p document.bytes (output_of_run (reported run) run) }

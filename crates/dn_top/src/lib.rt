@@ -1,4 +1,4 @@
-//! The program denovo, except its `main`: it takes command words and a text, and writes its answer or why it refuses.
+//! The program denovo, except its `main`: it takes arguments and a text, and writes its answer or why it refuses.
 #![tactic(auto)]
 
 ghost use Rattle.std.specs.Prelude.{◌≡◌, map, string_bytes, None, IfSome};
@@ -36,17 +36,17 @@ pub use program::{denovo_given, denovo_program};
 pub use serving::Answer;
 use serving::{answer_alone, answer_by_workers};
 
-/// Answers these command words and this source on one thread, whatever number of workers is asked for.
+/// Answers these arguments and this source on one thread, whatever number of workers is asked for.
 ///
 /// The status is `Usage` if the command doesn't take the words. In the mode work the text is generated, with the size that is
-/// asked for. In all other modes the source is read to its end, or to one byte more than a text, or in the mode replay a
-/// document, may have. The text is taken as a program, which is checked in all modes but list.
+/// asked for. In all other modes the source is read to its end, or to one byte more than a text, or in the mode replay a trace,
+/// may have. The text is taken as a program, which is checked in all modes but list.
 ///
 /// In the modes run, work, trace and time the program is run on the multicore machine of the shape that is asked for, by the
-/// events that the seed picks, and the run is handed back. In the mode flat it is run on one flat memory by the least list of
-/// grants. In the mode prove its effects are proved from the text alone. In the mode replay the source is the document of a
-/// run, as the mode trace writes it: its text is taken as the program, its events are made on the machine of its size, and that
-/// run is handed back if it is complete.
+/// events that the seed picks, and the run is handed back. In the mode flat it is run on one flat memory by the canonical list of
+/// grants. In the mode prove its effects are proved from the text alone. In the mode replay the source is the trace, as the mode
+/// trace writes it: its text is taken as the program, its events are made on the machine of its size, and that run is handed back
+/// if it is complete.
 ///
 /// The whole answer is made before anything is written; then it is written and flushed. The first reason to refuse decides.
 ///
@@ -90,7 +90,7 @@ fn answer_options<R: Threads + Wait + Sync, S: Source, K: Sink, G: Gate + Sync>(
     }
 }
 
-/// The whole program except its `main`: answers these command words and this source.
+/// The whole program except its `main`: answers these arguments and this source.
 ///
 /// It does the same as `answer_words`, except for the workers. With one worker this thread alone makes the run, by the events
 /// that the seed picks, and the call waits for no other thread. With 2 to 16 workers as many host threads make the run, in

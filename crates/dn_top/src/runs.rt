@@ -12,7 +12,7 @@ ghost use Rattle.dn_top.specs.Runs.{IsAnyRunFor, IsRunFor, IsTimedFor, with_one_
 
 use crate::output::Output;
 use command_words::Options;
-use dn_base::{Memory, Sequence, Shape, Status};
+use dn_base::{MOST_WORDS, Memory, Sequence, Shape, Status};
 use dn_machine::{Machine, RunRecord, a_machine_is_kept};
 use effect_checker::Checked;
 use grant_log::Counts;
@@ -111,7 +111,7 @@ pub(crate) fn ticks_of(options: &Options) -> Ticks
 
 /// Sums up how a run ended, and then tells its timing.
 pub(crate) fn timed_text(alloc: Global, ending: &Ending, timing: &Timing) -> Result<Vec<u8>, Memory>
-    requires words { length ending.now.memory ≤ 65536 }
+    requires words { length ending.now.memory ≤ MOST_WORDS }
     requires tasks { length ending.now.tasks ≤ 64 }
     ensures { IfOk result (λ text. text.items ≡ summary_of ending.now ++ timing_of timing.now) }
 {

@@ -9,7 +9,7 @@ use crate::checked::Checked;
 use crate::fault::CheckFault;
 use crate::searching::{first_guarded_plain, first_plain_conflict, first_two_locks};
 use crate::takers::are_apart;
-use dn_base::PhaseId;
+use dn_base::{MOST_WORDS, PhaseId};
 use region_table::{Program, TaskDecl};
 
 /// The first fault among the tasks of a phase.
@@ -17,7 +17,7 @@ fn phase_fault(phase: PhaseId, tasks: &[TaskDecl], locks: u32) -> Option<CheckFa
     requires rising { AreRising tasks.now }
     requires locks { HaveLocks locks tasks.now }
     requires few { locks ≤ 32 }
-    requires words { UseWordsBelow 65536 tasks.now }
+    requires words { UseWordsBelow MOST_WORDS tasks.now }
     ensures some { IfSome result (IsFirstAmong phase.0 tasks.now) }
     ensures none { IfNone result (IsCheckedPhase (record { tasks = tasks.now })) }
 {

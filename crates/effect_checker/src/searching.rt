@@ -6,7 +6,7 @@ ghost use Rattle.effect_checker.specs.Takers.{UseWordsBelow};
 
 use crate::least::{contended_word, exposed_word, twice_guarded_word};
 use crate::takers::{is_apart_from_later, is_never_plain};
-use dn_base::{CoreId, LockId, WordId};
+use dn_base::{CoreId, LockId, MOST_WORDS, WordId};
 use region_table::TaskDecl;
 
 /// The first other core whose task uses plainly a word that the writer writes plainly, and the least such word.
@@ -41,7 +41,7 @@ pub(crate) fn first_plain_conflict(tasks: &[TaskDecl]) -> Option<(CoreId, CoreId
 /// The first core whose task uses plainly a word that the lock guards for some task, and the least such word.
 fn first_exposer(tasks: &[TaskDecl], lock: u32) -> Option<(CoreId, WordId)>
     requires rising { AreRising tasks.now }
-    requires words { UseWordsBelow 65536 tasks.now }
+    requires words { UseWordsBelow MOST_WORDS tasks.now }
     ensures some { IfSome result (λ f. IsFirstPair (λ core w. IsTrue (on_core (exposes tasks.now lock) tasks.now core w)) f.0.0 f.1.0) }
     ensures none { IfNone result ((core w : ℕ) → IsTrue (on_core (exposes tasks.now lock) tasks.now core w) → ⊥) }
 {
@@ -64,7 +64,7 @@ pub(crate) fn first_guarded_plain(
 ) -> Option<(LockId, CoreId, WordId)>
     requires rising { AreRising tasks.now }
     requires locks { HaveLocks locks tasks.now }
-    requires words { UseWordsBelow 65536 tasks.now }
+    requires words { UseWordsBelow MOST_WORDS tasks.now }
     ensures some { IfSome result (λ f. IsFirst (IsGuardedPlain tasks.now) f.0.0 f.1.0 f.2.0) }
     ensures none { IfNone result ((lock core w : ℕ) → IsGuardedPlain tasks.now lock core w → ⊥) }
 {
@@ -80,7 +80,7 @@ pub(crate) fn first_guarded_plain(
 fn first_other_lock(tasks: &[TaskDecl], lock: u32, locks: u32) -> Option<(LockId, WordId)>
     requires locks { HaveLocks locks tasks.now }
     requires within { lock < locks }
-    requires words { UseWordsBelow 65536 tasks.now }
+    requires words { UseWordsBelow MOST_WORDS tasks.now }
     ensures some { IfSome result (λ f. IsFirstPair (AreTwoLocks tasks.now lock) f.0.0 f.1.0) }
     ensures none { IfNone result ((other w : ℕ) → AreTwoLocks tasks.now lock other w → ⊥) }
 {
@@ -99,7 +99,7 @@ fn first_other_lock(tasks: &[TaskDecl], lock: u32, locks: u32) -> Option<(LockId
 /// least such word.
 pub(crate) fn first_two_locks(tasks: &[TaskDecl], locks: u32) -> Option<(LockId, LockId, WordId)>
     requires locks { HaveLocks locks tasks.now }
-    requires words { UseWordsBelow 65536 tasks.now }
+    requires words { UseWordsBelow MOST_WORDS tasks.now }
     ensures some { IfSome result (λ f. IsFirst (AreTwoLocks tasks.now) f.0.0 f.1.0 f.2.0) }
     ensures none { IfNone result ((a b w : ℕ) → AreTwoLocks tasks.now a b w → ⊥) }
 {

@@ -12,10 +12,8 @@ ghost use Rattle.effect_checker.specs.Faults.{IsGuardedPlain, AreTwoLocks};
 ghost use Rattle.effect_checker.specs.Least.{HaveLocks};
 ghost use Rattle.effect_checker.specs.Takers.{AreTaken, KeepTakers, UseWordsBelow};
 
+use dn_base::MOST_WORDS;
 use region_table::{Interval, TaskDecl, WordSet};
-
-/// The greatest number of words of a memory.
-const MOST_WORDS: usize = 65536;
 
 /// The taker of the words that tasks use plainly.
 const PLAIN: u8 = 1;
@@ -142,7 +140,7 @@ fn take_locks(takers: &mut [u8], tasks: &[TaskDecl], locks: u32) -> bool
 
 /// True only if no word that a lock guards is used plainly or guarded by another lock.
 pub(crate) fn are_apart(tasks: &[TaskDecl], locks: u32) -> bool
-    requires within { UseWordsBelow 65536 tasks.now }
+    requires within { UseWordsBelow MOST_WORDS tasks.now }
     requires few { locks ≤ 32 }
     requires locks { HaveLocks locks tasks.now }
     ensures plain { IsTrue result → (lock core w : ℕ) → IsGuardedPlain tasks.now lock core w → ⊥ }
@@ -154,7 +152,7 @@ pub(crate) fn are_apart(tasks: &[TaskDecl], locks: u32) -> bool
 
 /// True only if no word that the lock guards is used plainly.
 pub(crate) fn is_never_plain(tasks: &[TaskDecl], lock: u32) -> bool
-    requires { UseWordsBelow 65536 tasks.now }
+    requires { UseWordsBelow MOST_WORDS tasks.now }
     ensures { IsTrue result → (core w : ℕ) → IsGuardedPlain tasks.now lock core w → ⊥ }
 {
     let mut takers = [0; MOST_WORDS];
@@ -178,7 +176,7 @@ fn take_later_locks(takers: &mut [u8], tasks: &[TaskDecl], lock: u32, locks: u32
 
 /// True only if no lock with a greater number guards a word that this lock guards.
 pub(crate) fn is_apart_from_later(tasks: &[TaskDecl], lock: u32, locks: u32) -> bool
-    requires within { UseWordsBelow 65536 tasks.now }
+    requires within { UseWordsBelow MOST_WORDS tasks.now }
     requires among { lock < locks }
     requires locks { HaveLocks locks tasks.now }
     ensures { IsTrue result → (other w : ℕ) → AreTwoLocks tasks.now lock other w → ⊥ }

@@ -8,7 +8,7 @@ ghost use Rattle.effect_prover.specs.Stretch.{may_use, AreUsableKept, IsLastMult
 use crate::range::Range;
 use crate::row::Row;
 use crate::usable::{Access, UsableSets, are_usable};
-use dn_base::Memory;
+use dn_base::{MOST_WORDS, Memory};
 use region_table::{FIRST_DATA_ADDRESS, Program, TaskDecl};
 use rv_isa::{AluOp, Instr, Reg, Width};
 use std::alloc::Global;
@@ -50,7 +50,7 @@ fn are_allowed(
     range: Range,
     usable: &mut UsableSets,
 ) -> Result<bool, Memory>
-    requires memory { length program.now.memory ≤ 65536 }
+    requires memory { length program.now.memory ≤ MOST_WORDS }
     requires kept { AreUsableKept task.now usable.old }
     ensures kept { AreUsableKept task.now usable.new }
     ensures answer { IfOk result (λ allowed. Decides allowed (AreAllowed (may_use access task.now held) (length program.now.memory) width range)) }
@@ -97,7 +97,7 @@ fn access_is_inside(
     offset: i32,
     usable: &mut UsableSets,
 ) -> Result<bool, Memory>
-    requires memory { length program.now.memory ≤ 65536 }
+    requires memory { length program.now.memory ≤ MOST_WORDS }
     requires row { IsRow row.now }
     requires kept { AreUsableKept task.now usable.old }
     ensures kept { AreUsableKept task.now usable.new }
@@ -119,7 +119,7 @@ pub(crate) fn is_inside(
     instr: &Instr,
     usable: &mut UsableSets,
 ) -> Result<bool, Memory>
-    requires memory { length program.now.memory ≤ 65536 }
+    requires memory { length program.now.memory ≤ MOST_WORDS }
     requires row { IsRow row.now }
     requires kept { AreUsableKept task.now usable.old }
     ensures kept { AreUsableKept task.now usable.new }

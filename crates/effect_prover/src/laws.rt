@@ -1,4 +1,4 @@
-//! Laws: what a task's tables say of every run. A law is a function without effect; its contract states the theorem.
+//! Theorems: what a task's tables say of every run. A theorem is a function without effect; its contract states the theorem.
 ghost use Rattle.std.specs.Prelude.{◌≡◌, ℕ};
 ghost use Rattle.region_table.specs.Program.{ProgramParts, IsProgram};
 ghost use Rattle.region_table.specs.Numbers.{HasWords};

@@ -9,7 +9,7 @@ ghost use Rattle.effect_prover.specs.declared.usable.Access.{Access};
 ghost use Rattle.effect_prover.specs.Stretch.{IsStretch, may_use, AreUsable, HasWord, IsUsableKept, AreUsableKept, IsUsableReady};
 
 use crate::join::greater;
-use dn_base::{Memory, WordId};
+use dn_base::{MOST_WORDS, Memory, WordId};
 use region_table::{Interval, TaskDecl, WordSet};
 use std::alloc::Global;
 
@@ -31,7 +31,7 @@ fn interval_at(intervals: &[Interval], place: usize) -> Option<Interval>
 /// search.
 #[tactic(auto, using(crate::proofs::StretchLemmas::stretches))]
 fn end_in(set: &WordSet, word: u32) -> u32
-    requires { word < 65536 }
+    requires { word < MOST_WORDS }
     ensures { IsStretch (has set.now) word result }
 {
     if !set.contains(WordId(word)) {
@@ -48,7 +48,7 @@ fn end_in(set: &WordSet, word: u32) -> u32
 /// The same for the set of a lock, if that is held.
 #[tactic(auto, using(crate::proofs::StretchLemmas::stretches))]
 fn end_held(held: u32, lock: usize, set: &WordSet, word: u32) -> u32
-    requires { word < 65536 }
+    requires { word < MOST_WORDS }
     ensures { IsStretch (λ w. is_held held lock && has set.now w) word result }
 {
     if lock >= 32 {
@@ -63,7 +63,7 @@ fn end_held(held: u32, lock: usize, set: &WordSet, word: u32) -> u32
 
 /// The same for the sets of all locks that are held.
 fn end_under(sets: &[WordSet], held: u32, word: u32) -> u32
-    requires word { word < 65536 }
+    requires word { word < MOST_WORDS }
     ensures { IsStretch (under sets.now 0 held) word result }
 {
     let mut end = word;
@@ -75,7 +75,7 @@ fn end_under(sets: &[WordSet], held: u32, word: u32) -> u32
 
 /// The end of the words from `word` on that the task may use in this way while it holds these locks.
 fn end_of(access: Access, task: &TaskDecl, held: u32, word: u32) -> u32
-    requires word { word < 65536 }
+    requires word { word < MOST_WORDS }
     ensures { IsStretch (may_use access task.now held) word result }
 {
     match access {
@@ -87,7 +87,7 @@ fn end_of(access: Access, task: &TaskDecl, held: u32, word: u32) -> u32
 /// The end of the words that the task may store.
 #[tactic(auto, using(crate::proofs::StretchLemmas::stretches))]
 fn end_of_stores(task: &TaskDecl, held: u32, word: u32) -> u32
-    requires word { word < 65536 }
+    requires word { word < MOST_WORDS }
     ensures { IsStretch (may_store task.now held) word result }
 {
     let plain = end_in(&task.effects.writes, word);
@@ -98,7 +98,7 @@ fn end_of_stores(task: &TaskDecl, held: u32, word: u32) -> u32
 /// The end of the words that the task may load.
 #[tactic(auto, using(crate::proofs::StretchLemmas::stretches))]
 fn end_of_loads(task: &TaskDecl, held: u32, word: u32) -> u32
-    requires word { word < 65536 }
+    requires word { word < MOST_WORDS }
     ensures { IsStretch (may_load task.now held) word result }
 {
     let read = end_in(&task.effects.reads, word);
@@ -117,7 +117,7 @@ const FEW: u32 = 16;
 /// the next.
 #[tactic(auto, using(crate::proofs::StretchLemmas::usable))]
 fn few_usable(access: Access, task: &TaskDecl, held: u32, first: u32, last: u32) -> Option<bool>
-    requires last { last < 65536 }
+    requires last { last < MOST_WORDS }
     ensures { IfSome result (λ usable. Decides usable (AreUsable access task.now held first last)) }
 {
     let mut word = first;
@@ -288,7 +288,7 @@ fn keep(
 /// Whether each word from `first` to `last` is in the set.
 #[tactic(auto, using(crate::proofs::StretchLemmas::within))]
 fn are_in(set: &WordSet, first: u32, last: u32) -> bool
-    requires last { last < 65536 }
+    requires last { last < MOST_WORDS }
     ensures { Decides result ((w : ℕ) → first ≤ w → w ≤ last → has set.now w ≡ true) }
 {
     let mut word = first;
@@ -311,7 +311,7 @@ fn are_in_kept(
     last: u32,
     kept: &Option<UsableSet>,
 ) -> bool
-    requires last { last < 65536 }
+    requires last { last < MOST_WORDS }
     requires ready { IsUsableReady access task.now held kept.now }
     ensures { Decides result (AreUsable access task.now held first last) }
 {
@@ -335,7 +335,7 @@ fn are_usable_by(
     last: u32,
     kept: &mut Option<UsableSet>,
 ) -> Result<bool, Memory>
-    requires last { last < 65536 }
+    requires last { last < MOST_WORDS }
     requires kept { IsUsableKept access task.now kept.old }
     ensures kept { IsUsableKept access task.now kept.new }
     ensures answer { IfOk result (λ usable. Decides usable (AreUsable access task.now held first last)) }
@@ -360,7 +360,7 @@ pub(crate) fn are_usable(
     last: u32,
     usable: &mut UsableSets,
 ) -> Result<bool, Memory>
-    requires last { last < 65536 }
+    requires last { last < MOST_WORDS }
     requires kept { AreUsableKept task.now usable.old }
     ensures kept { AreUsableKept task.now usable.new }
     ensures answer { IfOk result (λ usable. Decides usable (AreUsable access task.now held first last)) }

@@ -1,6 +1,7 @@
 -- What the program writes for a text and the answer that denovo printed for it.
 use Rattle.std.specs.Prelude.{◌≡◌, ◌⊎◌, ℕ, ◌<◌, ◌≤◌, List, ◌++◌, length, codes}
 use Rattle.std.specs.Fmt.{decimal}
+use Rattle.dn_base.specs.declared.limits.TheConstants.{MOST_OF_DOCUMENT}
 use Rattle.dn_base.specs.declared.status.Status as status
 use Rattle.dn_base.specs.declared.status.Status.{Status}
 use Rattle.text_pieces.specs.Pieces.{newline}
@@ -27,14 +28,14 @@ output_of (explained.TheVariants.Refused number) = refused_output (refused_line 
 
 -- the output is that of the answer explained
 pub record IsExplanation (text answer : List ℕ) (out : Explanation) : Type 0 where
-  pub within : length answer ≤ 536870912
+  pub within : length answer ≤ MOST_OF_DOCUMENT
   pub explained : Explained
   pub is : IsExplained text answer explained
   pub output : out ≡ output_of explained
 
 -- the answer has more bytes than are looked at
 pub record IsTooLong (answer : List ℕ) (out : Explanation) : Type 0 where
-  pub large : 536870912 < length answer
+  pub large : MOST_OF_DOCUMENT < length answer
   pub output : out ≡ refused_output (codes "refused answer too-large" ++ newline)
 
 abbrev pub IsOutput : (text answer : List ℕ) → Explanation → Type 0

@@ -25,7 +25,7 @@ fn text_of<'a>(matches: &ArgMatches<'a>, id: &str) -> Option<&'a str>
     matches.get_str(id)
 }
 
-/// The name of a text that the command words give. The program's own name isn't among them.
+/// The name of a text that the arguments give. The program's own name isn't among them.
 ///
 /// The command has one word, the name, and no options. After a word `--` the name may begin with a dash.
 ///

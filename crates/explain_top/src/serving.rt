@@ -47,7 +47,7 @@ fn serve_named<T: Texts, S: Source, K: Sink>(
     }
 }
 
-/// The whole program except its `main`: answers these command words, these texts and this source, and returns how it ended.
+/// The whole program except its `main`: answers these arguments, these texts and this source, and returns how it ended.
 ///
 /// The status is `Usage` if the command doesn't take the words; texts and source are left alone then. Otherwise the text with
 /// the given name is read, to its end or to one byte more than a text may have. Then the source is read, to its end or to one

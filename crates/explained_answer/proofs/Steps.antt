@@ -20,7 +20,7 @@ use Rattle.explained_answer.specs.declared.line.FixedLine as fixed
 use Rattle.explained_answer.specs.Parts.{three_line}
 use Rattle.explained_answer.specs.AnswerLines.{IsAnswerLine, answer_line, address_line, link_line, sum_line, unbounded_line}
 use Rattle.explained_answer.proofs.Forms.{word-is}
-use Rattle.explained_answer.specs.declared.reading.ReadLine.{ReadLine}
+use Rattle.explained_answer.specs.declared.parsing.ReadLine.{ReadLine}
 use Rattle.explained_answer.specs.Lines.{IsLineOf, NoLineOf, IsRefusedAt, line_read, lines_in, IsWritten, AreLinesRead, lines_and_sentences, AreAllLinesExplained}
 
 -- what stands in front of a rest is as long as the rest leaves it

@@ -21,9 +21,9 @@ use Rattle.explained_answer.specs.AnswerLines.{IsAnswerLine, answer_line}
 use Rattle.dn_base.specs.declared.ids.Grant.{Grant}
 use Rattle.dn_base.specs.declared.status.Outcome.{Outcome}
 use Rattle.dn_base.specs.declared.status.Outcome.TheVariants.{Stuck}
-use Rattle.explained_answer.specs.declared.reading.ReadLine.{ReadLine}
-use Rattle.explained_answer.specs.declared.reading.ReadAnswer.{ReadAnswer}
-use Rattle.explained_answer.specs.declared.reading.ReadAnswer as read_answer
+use Rattle.explained_answer.specs.declared.parsing.ReadLine.{ReadLine}
+use Rattle.explained_answer.specs.declared.parsing.ReadAnswer.{ReadAnswer}
+use Rattle.explained_answer.specs.declared.parsing.ReadAnswer as read_answer
 use Rattle.explained_answer.specs.Holders.{answer_grants, holder_on}
 
 -- ---- what is said

@@ -14,10 +14,10 @@ ghost use Rattle.explained_answer.specs.Lines.{IsLineOf, lines_and_sentences};
 ghost use Rattle.explained_answer.specs.Explained.{IsLocated, HasNoConflict, IsNoListing, IsListingExplained, IsConflictExplained, IsTraceExplained, IsRunExplained, AreAllExplained, IsExplained};
 
 use crate::lines::explained_lines;
-use crate::reading::{ReadAnswer, read_answer};
+use crate::parsing::{ReadAnswer, read_answer};
 use crate::refusals::{explained_conflict, explained_fault};
 use crate::wholes::{explained_listing, explained_trace};
-use dn_base::{Memory, Sequence};
+use dn_base::{MOST_OF_TEXT, Memory, Sequence};
 use effect_checker::first_fault;
 use rv_assembler::SourceFault;
 use std::alloc::Global;
@@ -57,7 +57,7 @@ fn explained_checked(
     located: &Located,
     answer: &[u8],
 ) -> Result<Explained, Memory>
-    requires short { length text.now ≤ 1048576 }
+    requires short { length text.now ≤ MOST_OF_TEXT }
     requires located { IsLocated text.now located.now }
     requires checked { IsChecked located.now.program }
     requires no_listing { IsNoListing text.now located.now answer.now }
@@ -77,7 +77,7 @@ fn explained_unlisted(
     located: &Located,
     answer: &[u8],
 ) -> Result<Explained, Memory>
-    requires short { length text.now ≤ 1048576 }
+    requires short { length text.now ≤ MOST_OF_TEXT }
     requires located { IsLocated text.now located.now }
     requires no_listing { IsNoListing text.now located.now answer.now }
     ensures { IfOk result (λ e. IsConflictExplained text.now answer.now e ⊎ (IsTraceExplained text.now answer.now e ⊎ IsRunExplained text.now answer.now e)) }
@@ -95,7 +95,7 @@ fn explained_program(
     located: &Located,
     answer: &[u8],
 ) -> Result<Explained, Memory>
-    requires short { length text.now ≤ 1048576 }
+    requires short { length text.now ≤ MOST_OF_TEXT }
     requires located { IsLocated text.now located.now }
     ensures { IfOk result (λ e. IsListingExplained text.now answer.now e
         ⊎ (IsConflictExplained text.now answer.now e ⊎ (IsTraceExplained text.now answer.now e ⊎ IsRunExplained text.now answer.now e))) }
@@ -120,9 +120,9 @@ fn explained_text(alloc: Global, text: &[u8], answer: &[u8]) -> Result<Explained
 
 /// Repeats an answer to a text line by line. After each line that concerns a place in the text it says what that place is.
 ///
-/// The answer must be what `denovo` printed for the text in any mode, or the line with which it refused the text. The document
-/// of the mode trace is only repeated. If the answer isn't one to this text, the first line is named that can't belong to one.
-/// Lines that an answer of a checked program may have are never refused.
+/// The answer must be what `denovo` printed for the text in any mode, or the line with which it refused the text. The trace of
+/// the mode trace is only repeated. If the answer isn't one to this text, the first line is named that can't belong to one. Lines
+/// that an answer of a checked program may have are never refused.
 ///
 /// # Errors
 /// `Memory` if there is no room.

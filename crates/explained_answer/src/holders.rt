@@ -5,7 +5,7 @@ ghost use Rattle.explained_answer.specs.Holders.{answer_grants, core_if_in, hold
 ghost use Rattle.explained_answer.specs.Lines.{IsLineOf, lines_in};
 
 use crate::AnswerLine;
-use crate::reading::ReadLine;
+use crate::parsing::ReadLine;
 use dn_base::{Grant, Memory};
 use rv_core::EndShown;
 use std::alloc::Global;

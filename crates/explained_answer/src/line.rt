@@ -19,7 +19,7 @@ pub enum Count {
     Links,
     /// The events of a refused document before the first whose line isn't complete.
     WholeEvents,
-    /// The events of a refused document before the first that may not come.
+    /// The events of a refused document before the first that is not enabled.
     EnabledEvents,
 }
 
@@ -28,11 +28,11 @@ pub enum Count {
 pub enum FixedLine {
     /// No run of the program ends a task by the trap `outside`.
     Inside,
-    /// The command words are refused.
+    /// The arguments are refused.
     Usage,
-    /// The document of a run is refused: it has too many bytes,
+    /// The trace is refused: it has too many bytes,
     TooLarge,
-    /// or doesn't begin as a document,
+    /// or doesn't begin as a trace,
     Head,
     /// or has bytes after its last event,
     Rest,

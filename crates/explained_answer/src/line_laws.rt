@@ -1,4 +1,4 @@
-//! Laws of the lines of an answer. A law is a function without effect; its contract states the theorem.
+//! Theorems of the lines of an answer. A theorem is a function without effect; its contract states the theorem.
 ghost use Rattle.std.specs.Prelude.{◌≡◌, ◌++◌, ℕ, List, flat_map};
 ghost use Rattle.dn_base.specs.declared.ids.Grant.{Grant as GrantOf};
 ghost use Rattle.grant_log.specs.declared.counts.Counts.{Counts as CountsOf};

@@ -7,7 +7,7 @@ ghost use Rattle.explained_answer.specs.Lines.{named_word, named_lock, which_lin
 
 use crate::AnswerLine;
 use crate::holders::{holder_on, last_grants};
-use crate::reading::ReadLine;
+use crate::parsing::ReadLine;
 use dn_base::{Memory, Outcome};
 use sentences::{EffectLine, code_place_at, effect_lines, line_spans, push_ending, push_line};
 use src_text::Span;

@@ -18,7 +18,7 @@ use sentences::{push_conflict, push_refusal};
 use std::alloc::Global;
 use text_places::Located;
 
-/// Whether the line refuses command words, or the form of a document, before any text is looked at.
+/// Whether the line refuses arguments, or the form of a trace, before any text is looked at.
 fn is_before_text(line: AnswerLine) -> bool
     ensures { result ≡ is_before_text line }
 {

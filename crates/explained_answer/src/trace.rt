@@ -1,4 +1,4 @@
-//! The document of a run of a text.
+//! The trace of a text.
 ghost use Rattle.std.specs.Prelude.{◌≡◌, ◌≤◌, ◌+◌, length, IfOk, MatchOption};
 ghost use Rattle.text_pieces.specs.Parts.{source_part};
 ghost use Rattle.run_replay.specs.declared.trace.Trace.{Trace as TraceOf};
@@ -9,14 +9,14 @@ ghost use Rattle.explained_answer.specs.Trace.{StandsHead, IsTraceTaken, taken_b
 
 use crate::fronts::{alike, line_behind};
 use crate::taken::Taken;
-use dn_base::{MOST_EVENTS, Memory};
+use dn_base::{MOST_EVENTS, MOST_OF_TEXT, Memory};
 use run_replay::{TraceFault, behind_title, read_shape, read_trace};
 use std::alloc::Global;
 use text_pieces::{behind, field, push_source};
 
 /// A source text after the number of its bytes.
 fn source_part(alloc: Global, text: &[u8]) -> Result<Vec<u8>, Memory>
-    requires { length text.now ≤ 1048576 }
+    requires { length text.now ≤ MOST_OF_TEXT }
     ensures { IfOk result (λ part. part.items ≡ source_part text.now) }
 {
     let mut part = Vec::new(alloc);
@@ -24,7 +24,7 @@ fn source_part(alloc: Global, text: &[u8]) -> Result<Vec<u8>, Memory>
     Ok(part)
 }
 
-/// The fault of an answer as a document; None if it is one.
+/// The fault of an answer as a trace; None if it is one.
 fn fault_of(alloc: Global, answer: &[u8]) -> Result<Option<TraceFault>, Memory>
     ensures { IfOk result (λ found. MatchOption found ((t : TraceOf) × IsDocument answer.now t) (HasFault answer.now)) }
 {
@@ -71,15 +71,14 @@ fn taken_by_events(
     }
 }
 
-/// Takes an answer that is the document of a run of a text, as the mode trace prints it. It isn't checked whether the events
-/// may come.
+/// Takes an answer that is the trace of a text, as the mode trace prints it. It isn't checked whether the events are enabled.
 ///
-/// If an answer begins with a document's first line, and isn't such a document, the first line that differs is given.
+/// If an answer begins with a trace's first line, and isn't such a trace, the first line that differs is given.
 ///
 /// # Errors
 /// `Memory` if there is no room.
 pub fn take_trace(alloc: Global, text: &[u8], answer: &[u8]) -> Result<Taken, Memory>
-    requires { length text.now ≤ 1048576 }
+    requires { length text.now ≤ MOST_OF_TEXT }
     ensures { IfOk result (IsTraceTaken text.now answer.now) }
 {
     let Some(bytes) = behind_title(answer) else {

@@ -4,7 +4,7 @@ ghost use Rattle.explained_answer.specs.Explained.{IsNoListing, IsNoTrace, IsLis
 
 use crate::explaining::Explained;
 use crate::{Taken, take_listing, take_trace};
-use dn_base::{Memory, Sequence};
+use dn_base::{MOST_OF_TEXT, Memory, Sequence};
 use std::alloc::Global;
 use text_places::Located;
 
@@ -25,13 +25,13 @@ pub(crate) fn explained_listing(
     }
 }
 
-/// Repeats an answer that is the document of a run of the text, or begins as one; None if its first line differs.
+/// Repeats an answer that is the trace of the text, or begins as one; None if its first line differs.
 pub(crate) fn explained_trace(
     alloc: Global,
     text: &[u8],
     answer: &[u8],
 ) -> Result<Option<Explained>, Memory>
-    requires { length text.now ≤ 1048576 }
+    requires { length text.now ≤ MOST_OF_TEXT }
     ensures { IfOk result (λ found. MatchOption found (IsNoTrace text.now answer.now) (IsTraceAnswer text.now answer.now)) }
 {
     match take_trace(alloc, text, answer)? {

@@ -8,7 +8,7 @@ ghost use Rattle.explained_answer.specs.Parts.{IsNumber};
 ghost use Rattle.explained_answer.specs.AnswerLines.{IsShownWord, StandWord, NoCount, count_front, all_counts};
 
 use crate::line::Count;
-use dn_base::Outcome;
+use dn_base::{MOST_WORDS, Outcome};
 use message_net::EventKind;
 use region_table::FIRST_DATA_ADDRESS;
 use text_pieces::{behind, field, hexadecimal};
@@ -50,8 +50,8 @@ fn address(bytes: &[u8]) -> Option<(u32, u32, &[u8])>
 
 /// The data word at an address, where a line may show it with this value.
 fn shown_word(address: u32, value: u32) -> Option<u32>
-    ensures some { IfSome result (λ w. (address ≡ 268435456 + 4 * w) × (w < 65536) × (0 < value)) }
-    ensures none { IfNone result ((w : ℕ) → w < 65536 → address ≡ 268435456 + 4 * w → 0 < value → ⊥) }
+    ensures some { IfSome result (λ w. (address ≡ 268435456 + 4 * w) × (w < MOST_WORDS) × (0 < value)) }
+    ensures none { IfNone result ((w : ℕ) → w < MOST_WORDS → address ≡ 268435456 + 4 * w → 0 < value → ⊥) }
 {
     if address < FIRST_DATA_ADDRESS || address % 4 != 0 || value == 0 {
         return None;

@@ -1,5 +1,5 @@
 -- A list of grants stops at its first one that isn't legal, or at its end.
-use Rattle.std.proofs.Common.{◌≡◌, ℕ, List, length, take, get_or, slice_get, Option, Some, None, refl, sym, ap, ◌∙◌, subst, arith}
+use Rattle.std.proofs.Common.{◌≡◌, ℕ, List, length, take, get_or, slice_get, Option, Some, None, sym, ap, ◌∙◌, subst, arith}
 use Rattle.std.proofs.lemmas.List.{take_all}
 use Rattle.std.proofs.lemmas.Option.{slice_get_past, get_or_from_slice_get}
 use Rattle.dn_base.specs.declared.ids.Grant.{Grant}

@@ -1,5 +1,6 @@
 -- The first grant of a list that isn't legal, and the result of a list of grants.
 use Rattle.std.specs.Prelude.{◌≡◌, ℕ, ◌≤◌, false, List, length, take, slice_get, Option, Some, None}
+use Rattle.dn_base.specs.declared.limits.TheConstants.{MOST_WORDS}
 use Rattle.dn_base.specs.declared.ids.Grant.{Grant}
 use Rattle.region_table.specs.Program.{ProgramParts}
 use Rattle.flat_machine.specs.declared.refused.FlatRun.{FlatRun}
@@ -28,5 +29,5 @@ IsRunBy P fuel gs (Refused place) = IsFirstRefused P fuel gs place
 
 -- an end has no more words and tasks than a program may have
 abbrev pub IsShort : FlatRun → Type 0
-IsShort (Whole end') = (length end'.ending.memory ≤ 65536) × (length end'.ending.tasks ≤ 64)
+IsShort (Whole end') = (length end'.ending.memory ≤ MOST_WORDS) × (length end'.ending.tasks ≤ 64)
 IsShort (Refused place) = Unit {0}

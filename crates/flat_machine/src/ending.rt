@@ -23,7 +23,7 @@ pub struct FlatEnd {
     pub loads: Sequence<TaskLoads>,
 }
 
-/// How a task at rest is shown.
+/// How a task quiescent is shown.
 fn shown(program: &Program, fuel: u32, running: &Running<'_>) -> EndShown
     ensures { result ≡ shown_of program.now fuel running.now running.now.state.end }
 {

@@ -1,5 +1,5 @@
-//! Laws of segments and lists of grants, for proofs that compare other machines with the flat one.
-//! A law is a function without effect; its contract states the theorem.
+//! Theorems of segments and lists of grants, for proofs that compare other machines with the flat one. A theorem is a function
+//! without effect; its contract states the theorem.
 ghost use Rattle.std.specs.Prelude.{◌≡◌, ◌≢◌, ◌<◌, ◌≤◌, ◌↔◌, ℕ, List, [], ◌∷◌, ◌++◌, length, slice_get, slice_index, Some, None, true, false};
 ghost use Rattle.std.specs.List.{All, AllPairs, Any, IsAmong};
 ghost use Rattle.dn_base.specs.declared.ids.Grant.{Grant};

@@ -11,7 +11,7 @@ ghost use Rattle.flat_machine.specs.Ending.{flat_end_of, flat_ends_of, task_load
 use crate::accesses::{FlatAction, note};
 use crate::ending::{FlatEnd, TaskLoads, push_ends, push_loads};
 use crate::running::{Running, start};
-use dn_base::{Grant, LockId, Memory, PhaseId, Sequence};
+use dn_base::{Grant, LockId, MOST_WORDS, Memory, PhaseId, Sequence};
 use region_table::{Phase, Program, TaskDecl};
 use rv_core::{DecodedCode, Ending, Need, TaskEnd, outcome};
 use std::alloc::Global;
@@ -175,7 +175,7 @@ impl<'a> Machine<'a> {
         ensures value { IfOk result (λ machine. machine ≡ initial program.now) }
         ensures sound { IfOk result (IsSoundFlat program.now 0) }
         ensures locks { length program.now.locks ≤ 32 }
-        ensures words { length program.now.memory ≤ 65536 }
+        ensures words { length program.now.memory ≤ MOST_WORDS }
     {
         Ok(Machine {
             begun: 0,
@@ -274,7 +274,7 @@ impl<'a> Machine<'a> {
         ensures log { IfOk result (λ machine. log.new ≡ with_actions log.old (initial_actions program.now fuel)) }
         ensures sound { IfOk result (IsSoundFlat program.now fuel) }
         ensures locks { length program.now.locks ≤ 32 }
-        ensures words { length program.now.memory ≤ 65536 }
+        ensures words { length program.now.memory ≤ MOST_WORDS }
     {
         let mut machine = Machine::initial(alloc, program)?;
         machine.settle(alloc, program, code, fuel, log)?;
@@ -478,9 +478,9 @@ impl<'a> Machine<'a> {
         fuel: u32,
     ) -> Result<FlatEnd, Memory>
         requires sound { IsSoundFlat program.now fuel self }
-        requires words { length program.now.memory ≤ 65536 }
+        requires words { length program.now.memory ≤ MOST_WORDS }
         ensures value { IfOk result (λ end. end ≡ flat_end_of program.now fuel self.entry) }
-        ensures within { IfOk result (λ end. (length end.ending.memory ≤ 65536) × (length end.ending.tasks ≤ 64)) }
+        ensures within { IfOk result (λ end. (length end.ending.memory ≤ MOST_WORDS) × (length end.ending.tasks ≤ 64)) }
     {
         let tasks = self.ends(alloc, program, fuel)?;
         let Machine {

@@ -10,7 +10,7 @@ ghost use Rattle.flat_machine.specs.Refused.{IsFirstRefused, IsRunBy, IsShort};
 
 use crate::ending::FlatEnd;
 use crate::machine::Machine;
-use dn_base::{Grant, Memory};
+use dn_base::{Grant, MOST_WORDS, Memory};
 use effect_checker::Checked;
 use region_table::Program;
 use rv_core::DecodedCode;
@@ -64,7 +64,7 @@ fn whole_run(
     fuel: u32,
 ) -> Result<FlatRun, Memory>
     requires sound { IsSoundFlat program.now fuel machine }
-    requires words { length program.now.memory ≤ 65536 }
+    requires words { length program.now.memory ≤ MOST_WORDS }
     ensures value { IfOk result (λ run. run ≡ TheWhole (flat_end_of program.now fuel machine.entry)) }
     ensures within { IfOk result IsShort }
 {

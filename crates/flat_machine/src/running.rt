@@ -1,4 +1,4 @@
-ghost use Rattle.std.specs.Prelude.{◌≡◌, ◌≤◌, ◌<◌, [], ◌∷◌, None, Some, length, IfOk, OnOk, IfSome, true, false};
+ghost use Rattle.std.specs.Prelude.{◌≡◌, ◌≤◌, ◌<◌, [], ◌∷◌, ◌++◌, None, Some, length, IfOk, OnOk, IfSome, true, false};
 ghost use Rattle.rv_core.specs.Access.{is_held};
 ghost use Rattle.rv_core.specs.Decoded.{IsDecoded};
 ghost use Rattle.rv_core.specs.Kinds.{Allowed, IsLoad};
@@ -9,7 +9,7 @@ ghost use Rattle.flat_machine.specs.Phases.{has_finished};
 ghost use Rattle.flat_machine.specs.declared.accesses.FlatAction.TheVariants.{Accesses};
 ghost use Rattle.flat_machine.specs.Accesses.{with_actions, flat_access, actions_at, segment_actions};
 
-use crate::accesses::{AccessKind, FlatAccess, FlatAction, note};
+use crate::accesses::{AccessKind, FlatAccess, FlatAction};
 use dn_base::{LoadSeen, Memory, PhaseId, Sequence, WordId};
 use region_table::{Program, TaskDecl};
 use rv_core::{DecodedCode, End, Need, Next, TaskState};
@@ -89,15 +89,18 @@ impl Running<'_> {
         self.loads.push(LoadSeen { word, value })
     }
 
-    /// Notes an access of a word by the task's next instruction.
-    fn note(
+    /// Adds an access of a word by the task's next instruction to a list of actions.
+    // Out of line: few runs ask for actions, and the others needn't make an access ready.
+    #[cold]
+    #[inline(never)]
+    fn log(
         &self,
-        log: &mut Option<Sequence<FlatAction>>,
+        actions: &mut Sequence<FlatAction>,
         kind: AccessKind,
         word: WordId,
         value: u32,
     ) -> Result<(), Memory>
-        ensures { OnOk result (log.new ≡ with_actions log.old (Accesses (flat_access self.now kind word value) ∷ [])) }
+        ensures { OnOk result (actions.new ≡ actions.old ++ (Accesses (flat_access self.now kind word value) ∷ [])) }
     {
         let access = FlatAccess {
             phase: self.phase,
@@ -109,7 +112,24 @@ impl Running<'_> {
             word,
             value,
         };
-        note(log, FlatAction::Accesses(access))
+        actions.push(FlatAction::Accesses(access))
+    }
+
+    /// Notes an access of a word by the task's next instruction, if actions are logged.
+    #[inline(always)]
+    fn note(
+        &self,
+        log: &mut Option<Sequence<FlatAction>>,
+        kind: AccessKind,
+        word: WordId,
+        value: u32,
+    ) -> Result<(), Memory>
+        ensures { OnOk result (log.new ≡ with_actions log.old (Accesses (flat_access self.now kind word value) ∷ [])) }
+    {
+        match log {
+            None => Ok(()),
+            Some(actions) => self.log(actions, kind, word, value),
+        }
     }
 
     /// Makes one instruction of the task; a task that has ended or wants a lock isn't changed. Returns whether an instruction

@@ -7,7 +7,7 @@ ghost use Rattle.flat_machine.specs.Ending.{flat_end, flat_end_of};
 use crate::ending::FlatEnd;
 use crate::machine::Machine;
 use crate::refused::{FlatRun, flat_run};
-use dn_base::{Grant, Memory};
+use dn_base::{Grant, MOST_WORDS, Memory};
 use effect_checker::Checked;
 use region_table::Program;
 use rv_core::DecodedCode;
@@ -37,7 +37,7 @@ pub fn flat(
     requires some { 1 ≤ fuel }
     requires most { fuel ≤ 32768 }
     ensures value { IfOk result (λ end. end ≡ flat_end checked.now fuel grants.now) }
-    ensures within { IfOk result (λ end. IfSome end (λ e. (length e.ending.memory ≤ 65536) × (length e.ending.tasks ≤ 64))) }
+    ensures within { IfOk result (λ end. IfSome end (λ e. (length e.ending.memory ≤ MOST_WORDS) × (length e.ending.tasks ≤ 64))) }
 {
     match flat_run(alloc, checked, fuel, grants)? {
         FlatRun::Whole(end) => Ok(Some(end)),
@@ -93,10 +93,10 @@ fn with_end(
     grants: Vec<Grant>,
 ) -> Result<LeastRun, Memory>
     requires sound { IsSoundFlat program.now fuel machine }
-    requires words { length program.now.memory ≤ 65536 }
+    requires words { length program.now.memory ≤ MOST_WORDS }
     ensures grants { IfOk result (λ run. run.grants.items ≡ grants.items) }
     ensures end { IfOk result (λ run. run.end ≡ flat_end_of program.now fuel machine.entry) }
-    ensures within { IfOk result (λ run. (length run.end.ending.memory ≤ 65536) × (length run.end.ending.tasks ≤ 64)) }
+    ensures within { IfOk result (λ run. (length run.end.ending.memory ≤ MOST_WORDS) × (length run.end.ending.tasks ≤ 64)) }
 {
     let end = machine.finish(alloc, program, fuel)?;
     Ok(LeastRun { grants, end })
@@ -114,7 +114,7 @@ fn least_run_by(
     requires fuel { fuel ≤ 32768 }
     ensures least { IfOk result (λ run. IsLeast program.now fuel run.grants.items) }
     ensures end { IfOk result (λ run. flat_end program.now fuel run.grants.items ≡ Some run.end) }
-    ensures within { IfOk result (λ run. (length run.end.ending.memory ≤ 65536) × (length run.end.ending.tasks ≤ 64)) }
+    ensures within { IfOk result (λ run. (length run.end.ending.memory ≤ MOST_WORDS) × (length run.end.ending.tasks ≤ 64)) }
 {
     let mut machine = Machine::open(alloc, program, code, fuel, &mut None)?;
     let grants = machine.grant_least(alloc, program, code, fuel)?;
@@ -132,7 +132,7 @@ pub fn least_run(alloc: Global, checked: &Checked, fuel: u32) -> Result<LeastRun
     requires most { fuel ≤ 32768 }
     ensures least { IfOk result (λ run. IsLeast checked.now fuel run.grants.items) }
     ensures end { IfOk result (λ run. flat_end checked.now fuel run.grants.items ≡ Some run.end) }
-    ensures within { IfOk result (λ run. (length run.end.ending.memory ≤ 65536) × (length run.end.ending.tasks ≤ 64)) }
+    ensures within { IfOk result (λ run. (length run.end.ending.memory ≤ MOST_WORDS) × (length run.end.ending.tasks ≤ 64)) }
 {
     let program = checked.program();
     let code = DecodedCode::new(alloc, program)?;

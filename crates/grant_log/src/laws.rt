@@ -1,5 +1,4 @@
-//! Laws of the definitions, for proofs about logs.
-//! A law is a function without effect; its contract states the theorem.
+//! Theorems of the definitions, for proofs about logs. A theorem is a function without effect; its contract states the theorem.
 ghost use Rattle.std.specs.Prelude.{◌≡◌, ◌+◌, ◌<◌, if◌then◌else◌, List, length, filter, flat_map, sum};
 ghost use Rattle.message_net.specs.declared.actor.Actor.{Actor};
 ghost use Rattle.message_net.specs.declared.event.EventKind.{EventKind};

@@ -1,8 +1,9 @@
 //! What the actors of a run noted of its events: a log for each actor, with rising stamps; the one list into which all logs are
-//! merged; the grants in it; and how many events of each kind there were. Mails with stamps, inboxes of them, and spent actors.
+//! merged; the grants in it; and how many events of each kind there were. Messages with stamps, inboxes of them, and spent
+//! actors.
 //!
-//! If an entry handles a mail, its stamp is greater than that of the entry that sent the mail. So in the merged list each mail
-//! is handled after it was sent.
+//! If an entry handles a message, its stamp is greater than that of the entry that sent the message. So in the merged list each
+//! message is handled after it was sent.
 #![tactic(auto)]
 
 mod counts;

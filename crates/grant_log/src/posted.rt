@@ -5,20 +5,20 @@ ghost use Rattle.grant_log.specs.Inbox.{picked_index, picked_out};
 use crate::Stamped;
 use message_net::{Actor, Event, Mail};
 
-/// A mail in flight, with the stamp of the event that sent it.
+/// A message in flight, with the stamp of the event that sent it.
 #[derive(Clone, Copy, PartialEq, Eq)]
 pub struct Posted {
     pub mail: Mail,
     pub stamp: u64,
 }
 
-/// A mail with this stamp or a greater one isn't handled, and an actor with this clock handles none.
+/// A message with this stamp or a greater one isn't handled, and an actor with this clock handles none.
 const LAST_STAMP: u64 = 1 << 63;
 
-/// An actor whose next mail would have this number or a greater one handles no mail.
+/// An actor whose next message would have this number or a greater one handles no message.
 const LAST_NUMBER: u32 = 4_294_967_000;
 
-/// Whether an actor with this clock and this number for its next mail isn't spent: both are below their limits (this project's
+/// Whether an actor with this clock and this number for its next message isn't spent: both are below their limits (this project's
 /// profile).
 pub fn has_numbers_left(clock: u64, next: u32) -> bool
     ensures { result ≡ has_numbers_left clock next }
@@ -37,8 +37,8 @@ fn place_of(inbox: &[Posted], pick: u32) -> Option<usize>
     Some(pick as usize % inbox.len())
 }
 
-/// Takes the mail that the pick names out of the inbox, if there is one, its stamp is below 2^63, and its actor isn't spent.
-/// The last mail moves to its index.
+/// Takes the message that the pick names out of the inbox, if there is one, its stamp is below 2^63, and its actor isn't spent.
+/// The last message moves to its index.
 pub fn take_picked(inbox: &mut Vec<Posted>, pick: u32, has_numbers: bool) -> Option<Posted>
     ensures mail { result ≡ (picked_out (may_take has_numbers) inbox.old.items pick).0 }
     ensures rest { inbox.new.items ≡ (picked_out (may_take has_numbers) inbox.old.items pick).1 }
@@ -51,7 +51,8 @@ pub fn take_picked(inbox: &mut Vec<Posted>, pick: u32, has_numbers: bool) -> Opt
     Some(inbox.swap_remove(place))
 }
 
-/// The stamp of handling a mail (this project's profile): one more than the greater of the actor's clock and the mail's stamp.
+/// The stamp of handling a message (this project's profile): one more than the greater of the actor's clock and the message's
+/// stamp.
 pub fn stamp_of(clock: u64, posted: &Posted) -> u64
     requires clock { clock < 2 ^ 63 }
     requires stamp { posted.now.stamp < 2 ^ 63 }
@@ -64,7 +65,7 @@ pub fn stamp_of(clock: u64, posted: &Posted) -> u64
     }
 }
 
-/// What an actor notes of handling a mail.
+/// What an actor notes of handling a message.
 pub fn note(actor: Actor, stamp: u64, mail: &Mail) -> Stamped
     ensures { result ≡ handling_note actor stamp mail.now }
 {

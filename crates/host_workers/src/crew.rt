@@ -9,7 +9,8 @@ pub struct BankLog {
     pub log: Vec<Stamped>,
 }
 
-/// What one worker owns: some cores and some banks, each in rising order. Worker 0 also has the notes of the keeper's events.
+/// What one worker owns: some cores and some banks, each in rising order. Worker 0 also has the notes of the barrier controller's
+/// events.
 #[derive(Drop)]
 pub struct Crew {
     pub worker: u32,

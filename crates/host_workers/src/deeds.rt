@@ -32,7 +32,7 @@ fn sends(sent: Option<Outgoing>) -> NodeCame
     }
 }
 
-/// The node handles a mail.
+/// The node handles a message.
 #[tactic(auto, unfolding(round_rules::specs::Members::comes_of))]
 pub(crate) fn receive(node: &mut Node, context: &Context<'_>, posted: &Posted) -> NodeCame
     requires context { IsContext (setting context.now) }

@@ -10,7 +10,7 @@ use dn_base::{CoreId, Memory, Shape};
 use grant_log::Posted;
 use std::sync::Wait;
 
-/// Posts a mail, if it goes to an actor of the hall.
+/// Posts a message, if it goes to an actor of the hall.
 fn deliver<R: Wait>(
     rt: &R,
     hall: &Hall,
@@ -35,7 +35,7 @@ fn deliver<R: Wait>(
     }
 }
 
-/// Posts the mail that an event sends, if it sends one to an actor of the hall.
+/// Posts the message that an event sends, if it sends one to an actor of the hall.
 pub(crate) fn emit<R: Wait>(
     rt: &R,
     hall: &Hall,
@@ -57,7 +57,7 @@ pub(crate) fn emit<R: Wait>(
     }
 }
 
-/// Posts the keeper's letter to each core, if its verdict has letters.
+/// Posts the barrier controller's letter to each core, if its verdict has letters.
 pub(crate) fn emit_letters<R: Wait>(
     rt: &R,
     hall: &Hall,

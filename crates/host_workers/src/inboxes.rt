@@ -1,4 +1,4 @@
-//! The mails in flight, each in the inbox of its receiver, in the form in which the objects of a hall have them.
+//! The messages in flight, each in the inbox of its receiver, in the form in which the objects of a hall have them.
 ghost use Rattle.std.specs.Prelude.{◌≡◌, ◌<◌, ◌+◌, ◌++◌, ◌∷◌, [], length, map, flat_map, All, IfOk, OnOk};
 ghost use Rattle.std.specs.List.{range_with_len};
 ghost use Rattle.message_net.specs.Pool.{AreDistinct};
@@ -13,7 +13,7 @@ use phase_barrier::Keeper;
 use registry_bank::Bank;
 use std::alloc::Global;
 
-/// The inboxes of the cores and of the banks in the order of their numbers, and the keeper's.
+/// The inboxes of the cores and of the banks in the order of their numbers, and the barrier controller's.
 #[derive(Drop)]
 pub(crate) struct Inboxes {
     pub(crate) cores: Vec<Vec<Posted>>,
@@ -21,8 +21,8 @@ pub(crate) struct Inboxes {
     pub(crate) keeper: Vec<Posted>,
 }
 
-/// The objects of a closed hall taken apart: the banks, the keeper, the numbers of their next mails (the banks' in their order, then
-/// the keeper's), and all inboxes.
+/// The objects of a closed hall taken apart: the banks, the barrier controller, the numbers of their next messages (the banks' in
+/// their order, then the barrier controller's), and all inboxes.
 #[derive(Drop)]
 pub(crate) struct Objects {
     pub(crate) banks: Vec<Bank>,
@@ -31,7 +31,7 @@ pub(crate) struct Objects {
     pub(crate) inboxes: Inboxes,
 }
 
-/// `count` inboxes without mails.
+/// `count` inboxes without messages.
 fn empty_inboxes(alloc: Global, count: u32) -> Result<Vec<Vec<Posted>>, Memory>
     ensures { IfOk result (λ inboxes. map (λ v. v.items) inboxes.items ≡ map (λ i. []) (range_with_len 0 count)) }
 {
@@ -42,7 +42,7 @@ fn empty_inboxes(alloc: Global, count: u32) -> Result<Vec<Vec<Posted>>, Memory>
     Ok(inboxes)
 }
 
-/// Puts a mail at the end of the inbox at an index, if there is one.
+/// Puts a message at the end of the inbox at an index, if there is one.
 fn put_at(inboxes: &mut Vec<Vec<Posted>>, place: usize, posted: Posted) -> Result<(), Memory>
     ensures { OnOk result (map (λ v. v.items) inboxes.new.items ≡ put_at posted place (map (λ v. v.items) inboxes.old.items)) }
 {
@@ -52,7 +52,7 @@ fn put_at(inboxes: &mut Vec<Vec<Posted>>, place: usize, posted: Posted) -> Resul
     Ok(())
 }
 
-/// Adds the mails of an inbox to a pool.
+/// Adds the messages of an inbox to a pool.
 fn post_all(pool: &mut Pool, inbox: &[Posted]) -> Result<(), Memory>
     requires distinct { AreDistinct (pool.old.mails ++ map mail_in inbox.now) }
     requires few { length (pool.old.mails ++ map mail_in inbox.now) < 4294967295 }
@@ -64,7 +64,7 @@ fn post_all(pool: &mut Pool, inbox: &[Posted]) -> Result<(), Memory>
     Ok(())
 }
 
-/// Adds the mails of several inboxes to a pool, one inbox after the other.
+/// Adds the messages of several inboxes to a pool, one inbox after the other.
 fn post_each(pool: &mut Pool, inboxes: &[Vec<Posted>]) -> Result<(), Memory>
     requires distinct { AreDistinct (pool.old.mails ++ all_mails_in (map (λ v. v.items) inboxes.now)) }
     requires few { length (pool.old.mails ++ all_mails_in (map (λ v. v.items) inboxes.now)) < 4294967295 }
@@ -76,7 +76,7 @@ fn post_each(pool: &mut Pool, inboxes: &[Vec<Posted>]) -> Result<(), Memory>
     Ok(())
 }
 
-/// Each bank with its inbox and the number of its next mail, and a clock at 0.
+/// Each bank with its inbox and the number of its next message, and a clock at 0.
 fn bank_actors(
     alloc: Global,
     mut banks: Vec<Bank>,
@@ -113,7 +113,7 @@ fn core_ports(alloc: Global, mut inboxes: Vec<Vec<Posted>>) -> Result<Vec<Port>,
 }
 
 impl Inboxes {
-    /// The inboxes of a machine's actors, without mails.
+    /// The inboxes of a machine's actors, without messages.
     fn empty(alloc: Global, shape: Shape) -> Result<Inboxes, Memory>
         ensures { IfOk result (λ inboxes. AreFirstInboxes shape [] (inboxes_of inboxes)) }
     {
@@ -124,7 +124,7 @@ impl Inboxes {
         })
     }
 
-    /// Puts a mail at the end of the inbox of its receiver, if that has one.
+    /// Puts a message at the end of the inbox of its receiver, if that has one.
     fn put(&mut self, posted: Posted) -> Result<(), Memory>
         ensures { OnOk result (inboxes_of self.new ≡ put_in posted posted.mail.to (inboxes_of self.old)) }
     {
@@ -138,8 +138,8 @@ impl Inboxes {
         }
     }
 
-    /// The inboxes of a machine's actors when a round begins: each mail in flight, in the pool's order and with stamp 0, in the
-    /// inbox of its receiver. One pass over the pool makes them.
+    /// The inboxes of a machine's actors when a round begins: each message in flight, in the pool's order and with stamp 0, in
+    /// the inbox of its receiver. One pass over the pool makes them.
     ///
     /// # Errors
     /// `Memory` where there is no room.
@@ -156,8 +156,9 @@ impl Inboxes {
         Ok(inboxes)
     }
 
-    /// The objects of a hall: the banks and the keeper with their inboxes, the numbers of their next mails and clocks at 0, and the
-    /// cores' ports. `next` has the numbers of the banks' next mails in their order, and then the keeper's.
+    /// The objects of a hall: the banks and the barrier controller with their inboxes, the numbers of their next messages and
+    /// clocks at 0, and the cores' ports. `next` has the numbers of the banks' next messages in their order, and then the barrier
+    /// controller's.
     ///
     /// # Errors
     /// `Memory` where there is no room.
@@ -181,7 +182,7 @@ impl Inboxes {
         })
     }
 
-    /// The pool of all mails in the inboxes. No two of them have the same id.
+    /// The pool of all messages in the inboxes. No two of them have the same id.
     ///
     /// # Errors
     /// `Memory` where there is no room.
@@ -198,7 +199,7 @@ impl Inboxes {
     }
 }
 
-/// The banks, their inboxes and the numbers of their next mails, each in the banks' order.
+/// The banks, their inboxes and the numbers of their next messages, each in the banks' order.
 #[derive(Drop)]
 struct Homes {
     banks: Vec<Bank>,

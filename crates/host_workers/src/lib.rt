@@ -1,5 +1,5 @@
 //! Host workers: threads that make the run of a multicore machine together. Each owns some of the cores and banks. They share a
-//! hall, in which each bank, each core's inbox and the keeper has a turn of its own.
+//! hall, in which each bank, each core's inbox and the barrier controller has a turn of its own.
 #![tactic(auto)]
 
 mod crew;

@@ -5,7 +5,7 @@ ghost use Rattle.host_workers.specs.Ends.{with_ends, last_ends};
 ghost use Rattle.host_workers.specs.RoundOf.{IsTallied, HasNoted, HasNotedRound};
 
 use crate::round::Round;
-use dn_base::{CoreId, MOST_CORES, Memory};
+use dn_base::{CoreId, MOST_CORES, MOST_EVENTS, Memory};
 use dn_machine::{Happened, Log, Machine, Stepped};
 use grant_log::Stamped;
 use rv_core::TaskEnd;
@@ -16,7 +16,7 @@ use rv_core::TaskEnd;
 /// `Memory` if there is no room; the log can't be used any more then.
 fn note_events(log: &mut Log, merged: &[Stamped]) -> Result<(), Memory>
     requires counted { (kinds : List EventKind) × IsTallied kinds log.old }
-    requires few { length log.old.events + length merged.now ≤ 25169664 }
+    requires few { length log.old.events + length merged.now ≤ MOST_EVENTS }
     ensures { OnOk result (HasNoted merged.now log.old log.new) }
 {
     for entry in merged {
@@ -49,7 +49,7 @@ fn note_ends(log: &mut Log, ends: &[TaskEnd])
 /// `Memory` if there is no room; the log can't be used any more then.
 pub(crate) fn note_round(log: &mut Log, round: &Round) -> Result<(), Memory>
     requires counted { (kinds : List EventKind) × IsTallied kinds log.old }
-    requires few { length log.old.events + length round.now.merged.items ≤ 25169664 }
+    requires few { length log.old.events + length round.now.merged.items ≤ MOST_EVENTS }
     ensures { OnOk result (HasNotedRound round.now log.old log.new) }
 {
     note_events(log, round.merged.as_slice())?;

@@ -20,7 +20,8 @@ use registration_protocol::Node;
 use registry_bank::Bank;
 use std::alloc::Global;
 
-/// What events change in a machine, as it is dealt to the workers of a round; `next` has the numbers of all actors' next mails.
+/// What events change in a machine, as it is dealt to the workers of a round; `next` has the numbers of all actors' next
+/// messages.
 #[derive(Drop)]
 pub(crate) struct Moving {
     pub(crate) nodes: Vec<Node>,
@@ -70,8 +71,8 @@ fn jobs_of(
     Ok(jobs)
 }
 
-/// The objects of a hall: the banks and the keeper, with the mails in flight in their inboxes, and the cores' ports. `next` has the
-/// numbers of the banks' next mails, and then the keeper's.
+/// The objects of a hall: the banks and the barrier controller, with the messages in flight in their inboxes, and the cores'
+/// ports. `next` has the numbers of the banks' next messages, and then the barrier controller's.
 ///
 /// # Errors
 /// `Memory` where there is no room.
@@ -91,7 +92,7 @@ fn objects_of(
     inboxes.objects(alloc, banks, keeper, next)
 }
 
-/// The crews of the workers, which own these nodes and the banks; `next` has the numbers of all actors' next mails.
+/// The crews of the workers, which own these nodes and the banks; `next` has the numbers of all actors' next messages.
 ///
 /// # Errors
 /// `Memory` where there is no room.
@@ -135,7 +136,8 @@ fn opened_of(
     Ok(Opened { hall, jobs })
 }
 
-/// Opens a round: shares the banks, the keeper and the inboxes in a hall, and deals the cores and banks out to the workers.
+/// Opens a round: shares the banks, the barrier controller and the inboxes in a hall, and deals the cores and banks out to the
+/// workers.
 ///
 /// # Errors
 /// `Memory` if there is no room; what was handed in is dropped.

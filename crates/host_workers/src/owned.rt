@@ -19,7 +19,7 @@ use registration_protocol::{Context, Node};
 use round_rules::EndSeen;
 use rv_core::TaskEnd;
 
-/// A core that a worker owns: its node, its clock, the number of its next mail, the notes of its events, and the ends of the
+/// A core that a worker owns: its node, its clock, the number of its next message, the notes of its events, and the ends of the
 /// tasks with which it arrived.
 #[derive(Drop)]
 pub struct Owned {
@@ -31,7 +31,7 @@ pub struct Owned {
     pub ends: Vec<EndSeen>,
 }
 
-/// The mail that a core sends with its next number and a stamp, if it sends one.
+/// The message that a core sends with its next number and a stamp, if it sends one.
 fn letter(core: CoreId, next: u32, stamp: u64, sent: Option<Outgoing>) -> Option<Posted>
     ensures mail { option_to_list result ≡ map (with_stamp stamp) (mails_of (OfCore core) next (option_to_list sent)) }
     ensures stamp { IfSome result (λ posted. posted.stamp ≡ stamp) }
@@ -55,7 +55,7 @@ fn push_end(ends: &mut Vec<EndSeen>, stamp: u64, end: Option<TaskEnd>)
 }
 
 impl Owned {
-    /// Whether the core has numbers left: its clock and the number of its next mail are below their limits. If not, the worker
+    /// Whether the core has numbers left: its clock and the number of its next message are below their limits. If not, the worker
     /// leaves the core alone.
     pub(crate) fn has_numbers_left(&self) -> bool
         ensures { result ≡ owned_has_numbers self.now }
@@ -63,7 +63,7 @@ impl Owned {
         has_numbers_left(self.clock, self.next)
     }
 
-    /// Makes room for what one pass notes, at most two events, so that no mail is taken that couldn't be noted.
+    /// Makes room for what one pass notes, at most two events, so that no message is taken that couldn't be noted.
     ///
     /// # Errors
     /// `Memory` if there isn't that much room.
@@ -77,7 +77,7 @@ impl Owned {
         Ok(())
     }
 
-    /// Notes an event with its stamp and result; there is room for it. Gives the mail that the core sends, if it sends one.
+    /// Notes an event with its stamp and result; there is room for it. Gives the message that the core sends, if it sends one.
     fn note(&mut self, stamp: u64, event: Event, kind: EventKind, came: NodeCame) -> Option<Posted>
         requires next { self.old.next < 4294967000 }
         requires room { HasRoom self.old 1 }
@@ -102,7 +102,7 @@ impl Owned {
         sent
     }
 
-    /// The core handles a mail, and notes it; there is room for that. Gives the mail that the core sends, if it sends one.
+    /// The core handles a message, and notes it; there is room for that. Gives the message that the core sends, if it sends one.
     pub(crate) fn handle(&mut self, context: &Context<'_>, posted: Posted) -> Option<Posted>
         requires context { IsContext (setting context.now) }
         requires fits { Fits (setting context.now) self.old.node }
@@ -122,7 +122,8 @@ impl Owned {
         self.note(stamp, Event::Handle(posted.mail.id), kind, came)
     }
 
-    /// The core makes its own event, and notes it; there is room for that. Gives the mail that the core sends, if it sends one.
+    /// The core makes its own event, and notes it; there is room for that. Gives the message that the core sends, if it sends
+    /// one.
     pub(crate) fn make(&mut self, context: &Context<'_>, event: Event) -> Option<Posted>
         requires context { IsContext (setting context.now) }
         requires fits { Fits (setting context.now) self.old.node }

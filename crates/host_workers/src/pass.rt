@@ -14,15 +14,16 @@ use region_table::a_program_is_well_formed;
 use registration_protocol::Context;
 use std::sync::Wait;
 
-/// One pass of a worker over the hall. Each of its cores has its turn: it takes a mail and handles it, and then makes its own
-/// event. Then each of its banks makes a step, and so does the keeper, if it is the worker's. Each mail that an event sends is
-/// posted at once. A core is left alone once its clock has reached 2^63, or the number of its next mail 4,294,967,000.
+/// One pass of a worker over the hall. Each of its cores has its turn: it takes a message and handles it, and then makes its own
+/// event. Then each of its banks makes a step, and so does the barrier controller, if it is the worker's. Each message that an
+/// event sends is posted at once. A core is left alone once its clock has reached 2^63, or the number of its next message
+/// 4,294,967,000.
 ///
 /// Returns the number of events that the pass made.
 ///
 /// # Errors
-/// `Memory` if there is no room: the pass and the crew hold what was made until then. Each mail that was taken is handled and
-/// noted. Of the mails that the last event sent, some may not be posted.
+/// `Memory` if there is no room: the pass and the crew hold what was made until then. Each message that was taken is handled and
+/// noted. Of the messages that the last event sent, some may not be posted.
 pub fn worker_pass<R: Wait, G: Gate>(
     rt: &R,
     hall: &Hall,

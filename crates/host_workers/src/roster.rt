@@ -12,8 +12,8 @@ use registration_protocol::Node;
 use round_rules::EndSeen;
 use std::alloc::Global;
 
-/// The cores and the banks of a machine in the order of their numbers, as workers own them, and the notes of the keeper's
-/// events.
+/// The cores and the banks of a machine in the order of their numbers, as workers own them, and the notes of the barrier
+/// controller's events.
 #[derive(Drop)]
 pub(crate) struct Roster {
     pub(crate) cores: Vec<Owned>,
@@ -21,7 +21,8 @@ pub(crate) struct Roster {
     pub(crate) keeper: Vec<Stamped>,
 }
 
-/// A roster taken apart, each in the order of the cores' numbers, and all logs: of the cores, of the banks, and the keeper's.
+/// A roster taken apart, each in the order of the cores' numbers, and all logs: of the cores, of the banks, and the barrier
+/// controller's.
 #[derive(Drop)]
 pub(crate) struct Parted {
     pub(crate) nodes: Vec<Node>,
@@ -227,7 +228,7 @@ fn push_logs(logs: &mut Vec<Vec<Stamped>>, banks: Vec<BankLog>) -> Result<(), Me
 }
 
 impl Roster {
-    /// The roster of these nodes and this many banks when a round begins; `next` has the numbers of the actors' next mails.
+    /// The roster of these nodes and this many banks when a round begins; `next` has the numbers of the actors' next messages.
     ///
     /// # Errors
     /// `Memory` where there is no room.
@@ -250,7 +251,7 @@ impl Roster {
     }
 
     /// Deals the roster to the crews of 1 to 16 workers. Each gets the cores and banks with its number modulo the number of
-    /// workers, and worker 0 the keeper's log.
+    /// workers, and worker 0 the barrier controller's log.
     ///
     /// # Errors
     /// `Memory` where there is no room.

@@ -36,8 +36,8 @@ use std::sync::Wait;
 use std::thread::Threads;
 use turn_lock::Entry;
 
-/// What a round leaves: the machine; the merged notes of all events; the ends of the tasks whose cores arrived at the barrier,
-/// in the same order; and for each bank, each core's port and the keeper all calls in one order.
+/// What a round leaves: the machine; the merged notes of all events; the ends of the tasks whose cores arrived at the barrier, in
+/// the same order; and for each bank, each core's port and the barrier controller all calls in one order.
 #[derive(Drop)]
 pub struct Round {
     pub machine: Machine,
@@ -128,7 +128,7 @@ impl FixedParts {
     }
 }
 
-/// What a round leaves of what it changes in a machine: the nodes with the numbers of the cores' next mails, and the objects.
+/// What a round leaves of what it changes in a machine: the nodes with the numbers of the cores' next messages, and the objects.
 ///
 /// # Errors
 /// `Memory` where there is no room.
@@ -247,12 +247,12 @@ fn finished_round<R: Threads + Wait + Sync, G: Gate + Sync>(
 }
 
 /// One round. There are `workers` workers, each on a thread of its own if one can be made. Worker w owns the cores and banks
-/// whose number modulo the number of workers is w, and worker 0 the keeper. They make passes over a hall of the machine's
-/// objects until no more events come, at most 4,096. Then the notes of all events are merged into one list, and the machine is
-/// the one to which these events lead.
+/// whose number modulo the number of workers is w, and worker 0 the barrier controller. They make passes over a hall of the
+/// machine's objects until no more events come, at most 4,096. Then the notes of all events are merged into one list, and the
+/// machine is the one to which these events lead.
 ///
 /// There must be 1 to 16 workers, and the machine must have made fewer than 3,000,000,000 events. The promises hold from each
-/// state S for which the machine stands: a run leads to S, and the machine's state is S except for the order of its mails.
+/// state S for which the machine stands: a run leads to S, and the machine's state is S except for the order of its messages.
 /// Every machine stands for some state (`a_machine_is_kept`).
 ///
 /// # Errors

@@ -10,7 +10,7 @@ ghost use Rattle.host_workers.specs.RoundOf.{IsTallied, HasNotedRound, IsRunSoFa
 
 use crate::noting::{note_last, note_round};
 use crate::round::{Round, run_round};
-use dn_base::{Gate, Memory};
+use dn_base::{Gate, MOST_EVENTS, Memory};
 use dn_machine::{Log, Machine, RunRecord, a_machine_is_kept};
 use rv_core::Ending;
 use std::alloc::{AllocError, Global};
@@ -40,7 +40,7 @@ fn seed_after(seed: u32) -> u32
 /// `Memory` if there is no room; the log can't be used any more then.
 fn noted(log: &mut Log, round: Round) -> Result<Machine, Memory>
     requires counted { (kinds : List EventKind) × IsTallied kinds log.old }
-    requires few { length log.old.events + length round.merged.items ≤ 25169664 }
+    requires few { length log.old.events + length round.merged.items ≤ MOST_EVENTS }
     ensures machine { IfOk result (λ m. m ≡ round.machine) }
     ensures noted { OnOk result (HasNotedRound round log.old log.new) }
 {
@@ -79,7 +79,7 @@ fn go_on<R: Threads + Wait + Sync, G: Gate + Sync>(
     noted(log, round)
 }
 
-/// Makes rounds until no event may come, and notes them. Gives the machine after them.
+/// Makes rounds until no event is enabled, and notes them. Gives the machine after them.
 ///
 /// # Errors
 /// `Memory` if there is no room; the log can't be used any more then.
@@ -136,7 +136,7 @@ fn recorded(alloc: Global, machine: &Machine, mut log: Log) -> Result<RunRecord,
     Ok(log.record(ending))
 }
 
-/// Makes rounds until no event may come. Gives the record of the run, of which the log tells so far.
+/// Makes rounds until no event is enabled. Gives the record of the run, of which the log tells so far.
 ///
 /// # Errors
 /// `Memory` if there is no room.
@@ -161,7 +161,7 @@ fn recorded_run<R: Threads + Wait + Sync, G: Gate + Sync>(
     record
 }
 
-/// The whole run of a machine by 1 to 16 workers, in rounds. If an event may come after a round, there is another round, with a
+/// The whole run of a machine by 1 to 16 workers, in rounds. If an event is enabled after a round, there is another round, with a
 /// seed that is 1 greater modulo 2^32. The machine must be an initial one.
 ///
 /// # Memory

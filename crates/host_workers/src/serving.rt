@@ -13,7 +13,7 @@ use rand_pcg::Pcg32;
 use registration_protocol::Context;
 use std::sync::Wait;
 
-/// Takes a mail from the core's port; the core handles it. Returns the number of events.
+/// Takes a message from the core's port; the core handles it. Returns the number of events.
 fn take_mail<R: Wait>(
     rt: &R,
     hall: &Hall,

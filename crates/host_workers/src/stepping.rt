@@ -79,7 +79,7 @@ pub(crate) fn step_banks<R: Wait, G: Gate>(
     Ok(made)
 }
 
-/// Makes a step of the keeper. Returns the number of events.
+/// Makes a step of the barrier controller. Returns the number of events.
 fn step_keeper<R: Wait>(
     rt: &R,
     hall: &Hall,
@@ -105,7 +105,7 @@ fn step_keeper<R: Wait>(
     Ok(1)
 }
 
-/// Makes a step of the keeper, if the worker owns it. Returns the number of events.
+/// Makes a step of the barrier controller, if the worker owns it. Returns the number of events.
 pub(crate) fn keep<R: Wait>(
     rt: &R,
     hall: &Hall,

@@ -87,7 +87,7 @@ fn whole_run(alloc: Global, seed: u32) -> Result<RunRecord, Stop> {
     Ok(machine.run(alloc, seed)?)
 }
 
-/// Makes the first event that may come, and tells its kind; None where none may come.
+/// Makes the first event that is enabled, and tells its kind; None where none is enabled.
 fn step(machine: &mut Machine) -> Result<Option<EventKind>, Memory> {
     if u64::from(MOST_STEPS) < machine.made() {
         return Ok(None);
@@ -127,7 +127,7 @@ fn show_run<R: Print>(rt: &R, alloc: Global, seed: u32) -> io::Result<()> {
     }
 }
 
-/// Steps a machine until no event may come, and prints each event with the value of the data word after it.
+/// Steps a machine until no event is enabled, and prints each event with the value of the data word after it.
 fn show_steps<R: Print>(rt: &R, alloc: Global, machine: &mut Machine) -> io::Result<()> {
     for number in 0..MOST_STEPS {
         let Ok(came) = step(machine) else {

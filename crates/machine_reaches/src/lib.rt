@@ -1,6 +1,6 @@
 //! What the machine can do: every legal and whole list of lock grants is the list of some complete run.
 //!
-//! Runs are bounded. So a run in which nobody acquires a lock out of turn can be made longer until nothing else may come, and
+//! Runs are bounded. So a run in which nobody acquires a lock out of turn can be made longer until nothing else is enabled, and
 //! then each task that goes on wants a lock. The task whose grant is next acquires it then.
 #![tactic(auto)]
 

@@ -1,5 +1,5 @@
-//! What holds of the machine's states and runs, for proofs about them.
-//! A law is a function without effect; its contract states the theorem.
+//! What holds of the machine's states and runs, for proofs about them. A theorem is a function without effect; its contract
+//! states the theorem.
 ghost use Rattle.std.specs.Prelude.{◌≡◌, ℕ, ◌+◌, ◌*◌, ◌≤◌, true, List, length, Some, slice_index};
 ghost use Rattle.dn_base.specs.declared.ids.LoadSeen.{LoadSeen};
 ghost use Rattle.message_net.specs.declared.actor.Actor.{Actor};
@@ -19,7 +19,9 @@ ghost use Rattle.machine_rules.specs.Racing.{IsRaceFree};
 ghost use Rattle.machine_rules.specs.Buffers.{mails_most, between, between_most};
 ghost use Rattle.machine_rules.specs.Reordered.{IsReordered, GoOnAlike};
 
-/// A sound state stays sound by every event that may come, whatever the messages in flight are.
+use dn_base::MOST_EVENTS;
+
+/// A sound state stays sound by every event that is enabled, whatever the messages in flight are.
 pub fn a_state_stays_sound()
     ensures { (S : State) (made : ℕ) (e : Event) → IsSound S made → enabled S e ≡ true → IsSound (next S e) (made + 1) }
 {}
@@ -29,7 +31,7 @@ pub fn the_opened_machine_is_sound()
     ensures { (C : Setting) → IsWellFormed C → IsSound (initial_state C) 0 }
 {}
 
-/// A setting within the limits of the code is one of the settings of any size of which the laws speak.
+/// A setting within the limits of the code is one of the settings of any size of which the theorems speak.
 pub fn a_ready_setting_is_well_formed()
     ensures { (C : Setting) → IsReady C → IsWellFormed C }
 {}
@@ -64,7 +66,7 @@ pub fn no_run_has_a_data_race()
     ensures { (C : Setting) (events : List Event) → IsWellFormed C → IsRun (initial_state C) events → IsRaceFree (actions_of (initial_state C) events) }
 {}
 
-/// If no event may come any more, all nodes are halted; or some task of the phase hasn't ended, and each such task waits for a
+/// If no event is enabled any more, all nodes are halted; or some task of the phase hasn't ended, and each such task waits for a
 /// lock that the task of another core holds.
 pub fn a_complete_run_is_at_rest()
     ensures { (C : Setting) (events : List Event) → IsWellFormed C → IsCompleteRun (initial_state C) events → IsAtRest (after (initial_state C) events) }
@@ -79,21 +81,22 @@ pub fn a_run_has_few_events()
 
 /// Every run terminates: within the limits of programs and fuel, none has more than 25,169,664 events.
 pub fn no_run_goes_on_for_ever()
-    ensures { (C : Setting) (events : List Event) → IsReady C → IsRun (initial_state C) events → length events ≤ 25169664 }
+    ensures { (C : Setting) (events : List Event) → IsReady C → IsRun (initial_state C) events → length events ≤ MOST_EVENTS }
 {}
 
-/// At most as many mails are in flight at once: for each core one for each entry of its cache and one more, and one for each lock.
+/// At most as many messages are in flight at once: for each core one for each entry of its cache and one more, and one for each
+/// lock.
 pub fn few_mails_are_in_flight()
     ensures { (C : Setting) (events : List Event) → IsWellFormed C → IsRun (initial_state C) events → length (after (initial_state C) events).mails ≤ mails_most C }
 {}
 
-/// Between two actors at most so many mails are in flight at once.
+/// Between two actors at most so many messages are in flight at once.
 pub fn few_mails_are_between_two_actors()
     ensures { (C : Setting) (events : List Event) (from to : Actor) → IsWellFormed C → IsRun (initial_state C) events → between (after (initial_state C) events) from to ≤ between_most C from to }
 {}
 
-/// The order of the mails in flight doesn't matter. In another order the same events may come. They tell the same, and lead to
-/// states that differ only in that order. The state is coherent or not as before, and it has the same runs.
+/// The order of the messages in flight doesn't matter. In another order the same events are enabled. They tell the same, and lead
+/// to states that differ only in that order. The state is coherent or not as before, and it has the same runs.
 pub fn mails_may_stand_in_any_order()
     ensures sound { (S T : State) (made : ℕ) → IsSound S made → IsReordered S T → IsSound T made }
     ensures alike { (S T : State) (made : ℕ) → IsSound S made → IsReordered S T → GoOnAlike S T }

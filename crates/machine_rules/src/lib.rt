@@ -1,4 +1,4 @@
-//! The multicore machine as a definition: its states, which events may come in a state, the state after each, runs, what is
+//! The multicore machine as a definition: its states, which events are enabled in a state, the state after each, runs, what is
 //! read off a run, and when a state is coherent. The protocol is that of DeNovo (PACT 2011) and DeNovoND (ASPLOS 2013).
 #![tactic(auto)]
 

@@ -25,9 +25,9 @@ fn answer_block<P: Program>(
     }
 }
 
-/// Answers command words and a source by a program, in memory.
+/// Answers arguments and a source by a program, in memory.
 ///
-/// `words` holds the command words without the program's name, each ended by a zero byte. `source` is what the program reads. The
+/// `words` holds the arguments without the program's name, each ended by a zero byte. `source` is what the program reads. The
 /// result is the program's exit code. `written` becomes the length of the answer in bytes, and `out` its first bytes, as many as
 /// fit. An `out` that is too small changes neither the result nor `written`.
 pub fn answer_in_memory<P: Program>(

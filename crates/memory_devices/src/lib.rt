@@ -1,5 +1,5 @@
 //! Input and output in memory, for a library that another language calls: a source over bytes, a sink that holds what it took,
-//! command words in a block of bytes, a buffer of the caller that shows bytes, and a program that is answered with all of these.
+//! arguments in a block of bytes, a buffer of the caller that shows bytes, and a program that is answered with all of these.
 #![tactic(auto)]
 
 mod answering;

@@ -4,8 +4,8 @@ ghost use Rattle.memory_devices.specs.Words.{block_words};
 use dn_base::Memory;
 use std::alloc::Global;
 
-/// The command words that a block of bytes holds, each ended by a zero byte; the last one may lack it. Where a word isn't UTF-8,
-/// each fault of it is replaced by U+FFFD, which no command takes.
+/// The arguments that a block of bytes holds, each ended by a zero byte; the last one may lack it. Where a word isn't UTF-8, each
+/// fault of it is replaced by U+FFFD, which no command takes.
 ///
 /// # Errors
 /// `Memory` if there is no room for the words.

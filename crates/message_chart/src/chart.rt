@@ -3,7 +3,7 @@ use dn_base::{CoreId, LockId, PhaseId, Sequence, Shape, WordId};
 use message_net::{Actor, EventKind};
 use rv_core::End;
 
-/// What an event or a mail is about.
+/// What an event or a message is about.
 #[derive(Clone, Copy)]
 pub enum About {
     Nothing,
@@ -14,7 +14,7 @@ pub enum About {
     Phase(PhaseId),
 }
 
-/// Where a mail comes from: its sender, and the line of the event that sent it; None if that event is before the chart's first
+/// Where a message comes from: its sender, and the line of the event that sent it; None if that event is before the chart's first
 /// row.
 #[derive(Clone, Copy)]
 pub struct Origin {
@@ -30,15 +30,15 @@ pub struct ChartRow {
     /// The actor that makes the event.
     pub actor: Actor,
     pub kind: EventKind,
-    /// What the event is about: the instruction, the word that is evicted, or what the mail that it handles is about.
+    /// What the event is about: the instruction, the word that is evicted, or what the message that it handles is about.
     pub about: About,
-    /// The phase of the barrier's keeper before the event.
+    /// The phase of the barrier controller before the event.
     pub phase: PhaseId,
     /// The line on which the row begins, from 0.
     pub line: u32,
     /// How many lines the row has: one for the event, one for a task's end, and one for each change.
     pub lines: u32,
-    /// Where the mail comes from that the event handles, if it handles one.
+    /// Where the message comes from that the event handles, if it handles one.
     pub mail: Option<Origin>,
     /// The words for which the actor holds something else after the event, and what it holds.
     pub changes: Sequence<WordChange>,
@@ -48,7 +48,7 @@ pub struct ChartRow {
     pub on_chain: bool,
 }
 
-/// A mail that an event of the chart sent and none of its events handles.
+/// A message that an event of the chart sent and none of its events handles.
 #[derive(Clone, Copy)]
 pub struct LeavingMail {
     pub sender: Actor,
@@ -66,7 +66,7 @@ pub struct LeavingMail {
 pub struct WaitingTask {
     pub core: CoreId,
     pub lock: LockId,
-    /// Its own line, after all rows and leaving mails.
+    /// Its own line, after all rows and leaving messages.
     pub line: u32,
 }
 

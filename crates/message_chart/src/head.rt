@@ -1,4 +1,4 @@
-//! What stands before the rows: the document's head, the bands of the phases and the columns.
+//! What stands before the rows: the trace's head, the bands of the phases and the columns.
 ghost use Rattle.std.specs.Prelude.{◌≡◌, ◌≤◌, ◌++◌, codes, flat_map, None, OnOk};
 ghost use Rattle.std.specs.List.{range_with_len};
 ghost use Rattle.message_chart.specs.Marks.{words_at};
@@ -50,7 +50,7 @@ fn push_meaning(out: &mut Vec<u8>) -> Result<(), Memory>
     )
 }
 
-/// Begins the document.
+/// Begins the trace.
 #[tactic(auto, unfolding(crate::specs::Picture::svg_begin))]
 fn push_svg_begin(out: &mut Vec<u8>) -> Result<(), Memory>
     ensures { OnOk result (out.new.items ≡ out.old.items ++ svg_begin) }
@@ -148,7 +148,7 @@ fn push_heading(out: &mut Vec<u8>, chart: &Chart) -> Result<(), Memory>
     push_size_words(out, chart)
 }
 
-/// Adds what the document begins with, and its descriptions.
+/// Adds what the trace begins with, and its descriptions.
 fn push_document(out: &mut Vec<u8>, chart: &Chart) -> Result<(), Memory>
     ensures { OnOk result (out.new.items ≡ out.old.items ++ (svg_begin ++ sizes chart.now ++ title_element chart.now ++ description chart.now)) }
 {

@@ -113,7 +113,7 @@ fn push_code(
     }
 }
 
-/// Adds what an event or a mail about a word is.
+/// Adds what an event or a message about a word is.
 fn push_word_label(
     out: &mut Vec<u8>,
     text: &Located,
@@ -150,7 +150,7 @@ fn push_phase_label(out: &mut Vec<u8>, kind: EventKind, phase: PhaseId) -> Resul
     )
 }
 
-/// Adds what an event or a mail is, and what it is about.
+/// Adds what an event or a message is, and what it is about.
 #[tactic(auto, unfolding(crate::specs::Labels::label_text))]
 pub(crate) fn push_label(
     out: &mut Vec<u8>,

@@ -1,5 +1,4 @@
-//! What holds of every picture, for proofs about charts.
-//! A law is a function without effect; its contract states the theorem.
+//! What holds of every picture, for proofs about charts. A theorem is a function without effect; its contract states the theorem.
 ghost use Rattle.std.specs.Prelude.{◌≡◌, ◌+◌, ◌*◌, ◌≤◌};
 ghost use Rattle.message_net.specs.declared.actor.Actor.{Actor};
 ghost use Rattle.message_chart.specs.declared.chart.Chart.{Chart};

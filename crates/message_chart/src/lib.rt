@@ -1,6 +1,6 @@
 //! The message chart of a run, as data and as a picture: an SVG text.
 //!
-//! A chart has a column for each actor, and a row for each event, in order from top to bottom. An arrow for each mail leads
+//! A chart has a column for each actor, and a row for each event, in order from top to bottom. An arrow for each message leads
 //! from the row of the event that sent it to the row of the event that handles it.
 #![tactic(auto)]
 

@@ -68,8 +68,8 @@ fn push_picture(out: &mut Vec<u8>, chart: &Chart, text: &Located) -> Result<(), 
 }
 
 /// The chart as a picture, the text of an SVG document. It has a title with the machine's size, a legend, bands for the phases,
-/// the actors' columns, a line through the chain's events with a ring around each, and an arrow for each mail. Each event has
-/// its number, its actor and what it is, how its task ends, and how it changes words. After the rows come the mails that no
+/// the actors' columns, a line through the chain's events with a ring around each, and an arrow for each message. Each event has
+/// its number, its actor and what it is, how its task ends, and how it changes words. After the rows come the messages that no
 /// event of the chart handles, and the tasks that wait for a lock.
 ///
 /// The names of words and locks, and the instructions with their lines, are those of the given text; it must be the text of the

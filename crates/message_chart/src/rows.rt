@@ -84,7 +84,7 @@ fn push_arrow_between(out: &mut Vec<u8>, class: &[u8], from: Point, to: Point) -
     }
 }
 
-/// The height at which a mail is sent.
+/// The height at which a message is sent.
 fn height_of(line: Option<u32>) -> u64
     ensures { result ≡ height_of line }
 {
@@ -94,7 +94,7 @@ fn height_of(line: Option<u32>) -> u64
     }
 }
 
-/// The class of the arrow of a mail that an event handles.
+/// The class of the arrow of a message that an event handles.
 fn mail_class(line: Option<u32>) -> &'static [u8]
     ensures { result.now ≡ mail_class line }
 {
@@ -104,7 +104,7 @@ fn mail_class(line: Option<u32>) -> &'static [u8]
     }
 }
 
-/// Adds the arrow of the mail that an event handles, if it handles one.
+/// Adds the arrow of the message that an event handles, if it handles one.
 fn push_arrow(out: &mut Vec<u8>, chart: &Chart, row: &ChartRow) -> Result<(), Memory>
     ensures { OnOk result (out.new.items ≡ out.old.items ++ arrow chart.now row.now) }
 {
@@ -118,7 +118,7 @@ fn push_arrow(out: &mut Vec<u8>, chart: &Chart, row: &ChartRow) -> Result<(), Me
     push_arrow_between(out, mail_class(mail.line), from, chart.dot(row))
 }
 
-/// Adds the arrows of all mails that are handled.
+/// Adds the arrows of all messages that are handled.
 pub(crate) fn push_arrows(out: &mut Vec<u8>, chart: &Chart, rows: &[ChartRow]) -> Result<(), Memory>
     ensures { OnOk result (out.new.items ≡ out.old.items ++ flat_map (arrow chart.now) rows.now) }
 {
@@ -128,7 +128,7 @@ pub(crate) fn push_arrows(out: &mut Vec<u8>, chart: &Chart, rows: &[ChartRow]) -
     Ok(())
 }
 
-/// Adds the arrow of a mail that no event of the chart handles.
+/// Adds the arrow of a message that no event of the chart handles.
 fn push_leaving_arrow(out: &mut Vec<u8>, chart: &Chart, mail: &LeavingMail) -> Result<(), Memory>
     ensures { OnOk result (out.new.items ≡ out.old.items ++ leaving_arrow chart.now mail.now) }
 {
@@ -206,7 +206,7 @@ fn push_dot(out: &mut Vec<u8>, chart: &Chart, row: &ChartRow) -> Result<(), Memo
     push_circle(out, b"event", chart.dot(row), 4)
 }
 
-/// Adds what an event or a mail is, as words of a class at a point.
+/// Adds what an event or a message is, as words of a class at a point.
 fn push_label_words(
     out: &mut Vec<u8>,
     text: &Located,
@@ -245,7 +245,7 @@ fn push_beside(
     }
 }
 
-/// Whether the mail that an event handles comes from a column to the right.
+/// Whether the message that an event handles comes from a column to the right.
 fn comes_from_right(chart: &Chart, actor: Actor, mail: Option<Origin>) -> bool
     ensures { result ≡ comes_from_right chart.now actor mail }
 {
@@ -393,7 +393,7 @@ pub(crate) fn push_rows(
     Ok(())
 }
 
-/// Adds what a mail is that no event of the chart handles.
+/// Adds what a message is that no event of the chart handles.
 fn push_leaving(
     out: &mut Vec<u8>,
     chart: &Chart,

@@ -9,15 +9,15 @@ pub enum WordState {
     Valid(u32),
     /// A core has a copy with this value, and has read it in this phase.
     Touched(u32),
-    /// A core is the word's registrant, and has this value.
+    /// A core is the word's owner, and has this value.
     Registered(u32),
-    /// A core is about to be the word's registrant, and has this value.
+    /// A core is about to be the word's owner, and has this value.
     Pending(u32),
     /// A core gives the word back, with this value.
     Leaving(u32),
     /// The word's home has this value.
     Home(u32),
-    /// The word's home knows that this core is its registrant.
+    /// The word's home knows that this core is its owner.
     At(CoreId),
 }
 

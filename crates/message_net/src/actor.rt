@@ -4,8 +4,8 @@ ghost use Rattle.message_net.specs.Mail.{actor_index};
 
 use dn_base::{BankId, CoreId};
 
-/// A sender or receiver of mails. In the order of actors the cores come first, then the banks, each by number, then the keeper
-/// of the barrier.
+/// A sender or receiver of messages. In the order of actors the cores come first, then the banks, each by number, then the
+/// barrier controller of the barrier.
 #[derive(Clone, Copy, Debug, PartialEq, Eq, PartialOrd, Ord)]
 pub enum Actor {
     Core(CoreId),
@@ -13,7 +13,7 @@ pub enum Actor {
     Keeper,
 }
 
-/// The id of a mail: its sender, and how many mails that sender had sent before it.
+/// The id of a message: its sender, and how many messages that sender had sent before it.
 #[derive(Clone, Copy, Debug, PartialEq, Eq)]
 pub struct MailId {
     pub sender: Actor,
@@ -29,7 +29,7 @@ pub(crate) fn is_same(a: MailId, b: MailId) -> bool
 
 impl Actor {
     /// The index of the actor among all of a machine with this many cores and banks: cores come first, then banks, then the
-    /// keeper.
+    /// barrier controller.
     #[inline(always)]
     pub fn index(&self, cores: u32, banks: u32) -> usize
         ensures { result ≡ actor_index cores banks self.now }

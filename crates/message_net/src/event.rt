@@ -13,12 +13,12 @@ pub enum Event {
     Evict(CoreId, WordId),
     /// The core arrives at the barrier.
     Arrive(CoreId),
-    /// The mail is handled by the actor that it goes to.
+    /// The message is handled by the actor that it goes to.
     Handle(MailId),
 }
 
 impl Event {
-    /// The kind of a core's own event. For the handling of a mail it has no meaning: that event has the kind of the mail's
+    /// The kind of a core's own event. For the handling of a message it has no meaning: that event has the kind of the message's
     /// message.
     #[inline(always)]
     pub fn own_kind(&self) -> EventKind

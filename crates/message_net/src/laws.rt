@@ -1,5 +1,5 @@
-//! Laws of posts and takes, for proofs about mails in flight.
-//! A law is a function without effect; its contract states the theorem.
+//! Theorems of posts and takes, for proofs about messages in flight. A theorem is a function without effect; its contract states
+//! the theorem.
 ghost use Rattle.std.specs.Prelude.{◌≡◌, ℕ, ◌+◌, ◌<◌, ◌≤◌, ◌↔◌, Bool, List, length, slice_get, Some, None, true, sum_by, count_by, IsPermutation};
 ghost use Rattle.std.specs.Ordering.{nat_cmp};
 ghost use Rattle.message_net.specs.declared.actor.Actor.{Actor};
@@ -20,14 +20,14 @@ pub fn equal_ids_are_the_same()
     ensures { (a b : MailId) → (same_id a b ≡ true) ↔ (a ≡ b) }
 {}
 
-/// A post adds the weight of its mail to the total weight, for any weights. With a test as weight, 1 or 0, the total is a
+/// A post adds the weight of its message to the total weight, for any weights. With a test as weight, 1 or 0, the total is a
 /// count.
 pub fn a_post_adds_its_mail()
     ensures weight { (f : Mail → ℕ) (mails : List Mail) (m : Mail) → sum_by f (posted m mails) ≡ sum_by f mails + f m }
     ensures length { (mails : List Mail) (m : Mail) → length (posted m mails) ≡ length mails + 1 }
 {}
 
-/// A take of the mail at an index subtracts its weight from the total weight, for any weights.
+/// A take of the message at an index subtracts its weight from the total weight, for any weights.
 pub fn a_take_frees_one_mail()
     ensures weight { (f : Mail → ℕ) (mails : List Mail) (place : ℕ) (m : Mail) → slice_get mails place ≡ Some m
         → sum_by f (without_mail_at place mails) + f m ≡ sum_by f mails }
@@ -37,13 +37,13 @@ pub fn a_take_frees_one_mail()
         → sum_by f (removed id mails).1 + f m ≡ sum_by f mails }
 {}
 
-/// At least one mail passes a test exactly if a mail that passes it stands at some index.
+/// At least one message passes a test exactly if a message that passes it stands at some index.
 pub fn a_counted_mail_stands_somewhere()
     ensures { (p : Mail → Bool) (mails : List Mail)
         → (1 ≤ count_by p mails) ↔ ((place : ℕ) × (m : Mail) × (slice_get mails place ≡ Some m) × (p m ≡ true)) }
 {}
 
-/// If a mail has the id, it is found by it; if none has, nothing is taken.
+/// If a message has the id, it is found by it; if none has, nothing is taken.
 pub fn a_counted_id_is_found()
     ensures some { (id : MailId) (mails : List Mail) → 1 ≤ count_of id mails → (place : ℕ) × (m : Mail) × IsFound id mails place m }
     ensures none { (id : MailId) (mails : List Mail) → count_of id mails ≡ 0 → removed id mails ≡ (None, mails) }
@@ -56,8 +56,8 @@ pub fn actors_have_indices_of_their_own()
         → actor_index cores banks a ≡ actor_index cores banks b → a ≡ b }
 {}
 
-/// In the order of actors the cores come first, then the banks, each by number, then the keeper. The actors of a machine stand
-/// in the order of their indices.
+/// In the order of actors the cores come first, then the banks, each by number, then the barrier controller. The actors of a
+/// machine stand in the order of their indices.
 pub fn actors_are_in_order()
     ensures order { (a b : Actor) → ⟦<Actor as Ord>⟧.cmp a b ≡ actor_order a b }
     ensures place { (cores banks : ℕ) (a b : Actor) → has_actor cores banks a ≡ true → has_actor cores banks b ≡ true
@@ -70,8 +70,8 @@ pub fn kinds_have_indices_of_their_own()
     ensures own { (j k : EventKind) → kind_index j ≡ kind_index k → j ≡ k }
 {}
 
-/// For the same mails in another order, the total weight is the same for any weights, and a take gives the same mail and leaves
-/// the same mails, again in some order.
+/// For the same messages in another order, the total weight is the same for any weights, and a take gives the same message and
+/// leaves the same messages, again in some order.
 pub fn the_order_of_mails_does_not_matter()
     ensures weight { (f : Mail → ℕ) (xs ys : List Mail) → IsPermutation xs ys → sum_by f ys ≡ sum_by f xs }
     ensures posted { (xs ys : List Mail) (m : Mail) → IsPermutation xs ys → IsPermutation (posted m xs) (posted m ys) }
@@ -80,7 +80,7 @@ pub fn the_order_of_mails_does_not_matter()
         → IsPermutation (removed id xs).1 (removed id ys).1 }
 {}
 
-/// Messages that are sent one after the other add their mails to those in flight.
+/// Messages that are sent one after the other add their messages to those in flight.
 pub fn all_mails_are_added()
     ensures weight { (f : Mail → ℕ) (from : Actor) (number : ℕ) (outs : List Outgoing) (mails : List Mail)
         → sum_by f (all_mails from number outs mails) ≡ sum_by f mails + sum_by f (mails_of from number outs) }
@@ -88,7 +88,7 @@ pub fn all_mails_are_added()
         → length (all_mails from number outs mails) ≡ length mails + length outs }
 {}
 
-/// Ids stay distinct: a mail that is taken is gone, and a sender's next numbers are new if no mail in flight has them.
+/// Ids stay distinct: a message that is taken is gone, and a sender's next numbers are new if no message in flight has them.
 pub fn ids_stay_distinct()
     ensures post { (mails : List Mail) (m : Mail) → AreDistinct mails → count_of m.id mails ≡ 0 → AreDistinct (posted m mails) }
     ensures take { (mails : List Mail) (place : ℕ) → AreDistinct mails → AreDistinct (without_mail_at place mails) }
@@ -98,7 +98,7 @@ pub fn ids_stay_distinct()
         → AreDistinct (all_mails from number outs mails) }
 {}
 
-/// If a mail stands at an index, taking by its id is taking at that index.
+/// If a message stands at an index, taking by its id is taking at that index.
 pub fn a_mail_is_found_by_its_id()
     ensures { (mails : List Mail) (place : ℕ) (m : Mail) → AreDistinct mails → slice_get mails place ≡ Some m
         → removed m.id mails ≡ (Some m, without_mail_at place mails) }

@@ -1,8 +1,8 @@
-//! What passes between the cores, the banks and the keeper of a simulated machine: messages, mails, the events of a run,
-//! and the pool of the mails in flight.
+//! What passes between the cores, the banks and the barrier controller of a simulated machine: messages, messages, the events of
+//! a run, and the pool of the messages in flight.
 //!
-//! The kinds of message are those of DeNovo (PACT 2011) and DeNovoND (ASPLOS 2013) for single words and queue locks. Those of
-//! the barrier between phases are this project's own. The network loses and duplicates no mail, and keeps no order.
+//! The kinds of message are those of DeNovo (PACT 2011) and DeNovoND (ASPLOS 2013) for single words and queue locks. Those of the
+//! barrier between phases are this project's own. The network loses and duplicates no message, and keeps no order.
 #![tactic(auto)]
 
 mod actor;

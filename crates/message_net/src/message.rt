@@ -15,7 +15,7 @@ pub enum Message {
         word: WordId,
         reader: CoreId,
     },
-    /// The home forwards the read to the word's registrant, which is to answer the reader.
+    /// The home forwards the read to the word's owner, which is to answer the reader.
     ReadFwd {
         word: WordId,
         reader: CoreId,
@@ -25,17 +25,17 @@ pub enum Message {
         word: WordId,
         value: u32,
     },
-    /// A core that stores to a word asks the word's home to make it the registrant.
+    /// A core that stores to a word asks the word's home to make it the owner.
     RegReq {
         word: WordId,
         core: CoreId,
     },
-    /// The home tells the earlier registrant that the core is the registrant now.
+    /// The home tells the earlier owner that the core is the owner now.
     RegFwd {
         word: WordId,
         core: CoreId,
     },
-    /// The core is told that it is the word's registrant.
+    /// The core is told that it is the word's owner.
     RegAck {
         word: WordId,
     },
@@ -142,7 +142,7 @@ impl Outgoing {
         }
     }
 
-    /// A message to the keeper of the barrier.
+    /// A message to the barrier controller of the barrier.
     pub fn to_keeper(message: Message) -> Outgoing
         ensures { Some result ≡ to_keeper message }
     {
@@ -152,7 +152,7 @@ impl Outgoing {
         }
     }
 
-    /// The mail that the message becomes, with its sender and that sender's number for it.
+    /// The message that the message becomes, with its sender and that sender's number for it.
     #[inline(always)]
     pub fn mail(&self, from: Actor, number: u32) -> Mail
         ensures { result ≡ mail_of from number self.now }

@@ -9,12 +9,12 @@ use std::alloc::Global;
 /// How many buckets the ids are put into.
 const BUCKETS: usize = 65536;
 
-/// The index at which each mail of a pool stands, by the mail's id: a hash table. No contract speaks of it: what it gives is
-/// checked before it is used.
+/// The index at which each message of a pool stands, by the message's id: a hash table. No contract speaks of it: what it gives
+/// is checked before it is used.
 ///
-/// The mails of a bucket make a chain, the last one noted first. Chains are short in whatever order mails are handled: an actor
-/// numbers its mails one by one, so every 65,536th of them has the same bucket. After n events one actor has at most n / 65,536
-/// + 1 mails in one bucket.
+/// The messages of a bucket make a chain, the last one noted first. Chains are short in whatever order messages are handled: an
+/// actor numbers its messages one by one, so every 65,536th of them has the same bucket. After n events one actor has at most n /
+/// 65,536 + 1 messages in one bucket.
 #[derive(Drop)]
 pub(crate) struct Places {
     /// The place with which each bucket's chain begins.
@@ -45,7 +45,7 @@ fn tell(row: &mut [Option<u32>], index: usize, place: Option<u32>) {
 }
 
 impl Places {
-    /// The places of these mails, with room for `room` places.
+    /// The places of these messages, with room for `room` places.
     ///
     /// # Errors
     /// `Memory` where there is no room.
@@ -63,7 +63,7 @@ impl Places {
         Ok(places)
     }
 
-    /// Makes room for the places of this many mails.
+    /// Makes room for the places of this many messages.
     ///
     /// # Errors
     /// `Memory` where there is no room.
@@ -74,7 +74,7 @@ impl Places {
         Ok(())
     }
 
-    /// The place of the mail with this id, where the chain of its bucket tells it.
+    /// The place of the message with this id, where the chain of its bucket tells it.
     pub(crate) fn find(&self, mails: &[Mail], id: MailId) -> Option<u32>
         ensures { IfSome result (λ place. (m : AMail) × (slice_get mails.now place ≡ Some m) × (m.id ≡ id)) }
     {
@@ -103,7 +103,7 @@ impl Places {
         None
     }
 
-    /// A mail with this id stands at this place from now on.
+    /// A message with this id stands at this place from now on.
     #[cold]
     #[inline(never)]
     pub(crate) fn note(&mut self, id: MailId, place: u32) {
@@ -113,7 +113,7 @@ impl Places {
         tell(&mut self.first, bucket, Some(place));
     }
 
-    /// The mail with this id stands no longer at this place.
+    /// The message with this id stands no longer at this place.
     fn forget(&mut self, id: MailId, place: u32) {
         let bucket = bucket(id);
         let behind = told(self.behind.as_slice(), place as usize);
@@ -124,7 +124,7 @@ impl Places {
         }
     }
 
-    /// The mail at this place is about to leave, and the last one to move there.
+    /// The message at this place is about to leave, and the last one to move there.
     #[cold]
     #[inline(never)]
     pub(crate) fn free(&mut self, mails: &[Mail], place: u32)

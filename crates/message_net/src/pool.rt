@@ -10,12 +10,12 @@ use dn_base::Memory;
 use std::alloc::Global;
 use std::marker::Model;
 
-/// The mails in flight. Their order is part of the contracts. No two have the same id, and there are at most 4,294,967,295.
+/// The messages in flight. Their order is part of the contracts. No two have the same id, and there are at most 4,294,967,295.
 ///
-/// A mail is found by its id in constant time if the pool keeps the places of ids (`keep_places`). Otherwise all mails are
+/// A message is found by its id in constant time if the pool keeps the places of ids (`keep_places`). Otherwise all messages are
 /// searched.
 ///
-/// Contracts see the list of mails and `spare`: for how many more mails there is room.
+/// Contracts see the list of messages and `spare`: for how many more messages there is room.
 #[derive(Drop)]
 pub struct Pool {
     row: Vec<Mail>,
@@ -34,14 +34,14 @@ impl Model for Pool {
     ghost invariant = { λ p. IsPool p.row.items };
 }
 
-/// The place of the first mail with this id.
+/// The place of the first message with this id.
 fn first_with(mails: &[Mail], id: MailId) -> Option<usize>
     ensures { result ≡ position (of_id id) mails.now }
 {
     mails.iter().position(|mail| is_same(mail.id, id))
 }
 
-/// The place of the mail with this id, where the places tell it.
+/// The place of the message with this id, where the places tell it.
 fn told_by(places: &Option<Places>, mails: &[Mail], id: MailId) -> Option<u32>
     ensures { IfSome result (λ place. (m : AMail) × (slice_get mails.now place ≡ Some m) × (m.id ≡ id)) }
 {
@@ -51,7 +51,7 @@ fn told_by(places: &Option<Places>, mails: &[Mail], id: MailId) -> Option<u32>
     }
 }
 
-/// The index of the mail with this id, or None if there is none. No two mails have the same id.
+/// The index of the message with this id, or None if there is none. No two messages have the same id.
 fn found_place(places: &Option<Places>, mails: &[Mail], id: MailId) -> Option<u32>
     requires distinct { AreDistinct mails.now }
     requires few { length mails.now ≤ 4294967295 }
@@ -63,7 +63,7 @@ fn found_place(places: &Option<Places>, mails: &[Mail], id: MailId) -> Option<u3
     }
 }
 
-/// The places, where they are kept, tell that a mail with this id stands at this place.
+/// The places, where they are kept, tell that a message with this id stands at this place.
 #[inline(always)]
 fn note_place(places: &mut Option<Places>, id: MailId, place: u32) {
     if let Some(places) = places {
@@ -71,7 +71,7 @@ fn note_place(places: &mut Option<Places>, id: MailId, place: u32) {
     }
 }
 
-/// The places, where they are kept, tell that the mail at this place leaves, and the last one moves there.
+/// The places, where they are kept, tell that the message at this place leaves, and the last one moves there.
 #[inline(always)]
 fn free_place(places: &mut Option<Places>, mails: &[Mail], place: u32)
     requires place { place < length mails.now }
@@ -82,7 +82,7 @@ fn free_place(places: &mut Option<Places>, mails: &[Mail], place: u32)
     }
 }
 
-/// Takes the mail at this place out of the row; the last mail moves into the free place.
+/// Takes the message at this place out of the row; the last message moves into the free place.
 #[inline(always)]
 fn take_out(row: &mut Vec<Mail>, place: usize) -> Mail
     requires { place < length row.old.items }
@@ -95,7 +95,7 @@ fn take_out(row: &mut Vec<Mail>, place: usize) -> Mail
 }
 
 impl Pool {
-    /// The pool without mails; takes no memory.
+    /// The pool without messages; takes no memory.
     pub fn new(alloc: Global) -> Pool
         ensures mails { result.mails ≡ [] }
         ensures spare { result.spare ≡ 0 }
@@ -106,7 +106,7 @@ impl Pool {
         }
     }
 
-    /// Adds a mail at the end.
+    /// Adds a message at the end.
     ///
     /// # Errors
     /// `Memory` where there is no room; the pool is then as before.
@@ -121,7 +121,7 @@ impl Pool {
         Ok(())
     }
 
-    /// Makes room for `more` mails. The mails stay as they are.
+    /// Makes room for `more` messages. The messages stay as they are.
     ///
     /// # Errors
     /// `Memory` if there is no room; the pool is then as before.
@@ -135,8 +135,8 @@ impl Pool {
         Ok(())
     }
 
-    /// From now on the pool keeps the index of the mail with each id, so that `place_of`, `has` and `take` find it in constant
-    /// time. This holds for as many mails as there is room for now: call it again after each `reserve`. If there is nothing to
+    /// From now on the pool keeps the index of the message with each id, so that `place_of`, `has` and `take` find it in constant
+    /// time. This holds for as many messages as there is room for now: call it again after each `reserve`. If there is nothing to
     /// do it costs nothing.
     ///
     /// # Errors
@@ -155,7 +155,7 @@ impl Pool {
         }
     }
 
-    /// Adds a mail at the end, in the room that was made for it; takes no memory.
+    /// Adds a message at the end, in the room that was made for it; takes no memory.
     #[inline(always)]
     pub fn post_reserved(&mut self, mail: Mail)
         requires new { count_of mail.id self.old.mails ≡ 0 }
@@ -169,8 +169,8 @@ impl Pool {
         self.row.push_reserved(mail);
     }
 
-    /// Removes the mail with this id, and gives it. The last mail moves to its index, and its room is spare. None if no mail
-    /// has the id; the pool is as before then. Takes no memory.
+    /// Removes the message with this id, and gives it. The last message moves to its index, and its room is spare. None if no
+    /// message has the id; the pool is as before then. Takes no memory.
     pub fn take(&mut self, id: MailId) -> Option<Mail>
         ensures value { result ≡ (removed id self.old.mails).0 }
         ensures rest { self.new.mails ≡ (removed id self.old.mails).1 }
@@ -184,8 +184,8 @@ impl Pool {
         Some(self.take_at(place))
     }
 
-    /// Takes the mail at this place out; the last mail moves into the free place, and the room of the mail is spare. It looks
-    /// for nothing, and takes no memory.
+    /// Takes the message at this place out; the last message moves into the free place, and the room of the message is spare. It
+    /// looks for nothing, and takes no memory.
     #[inline(always)]
     pub fn take_at(&mut self, place: u32) -> Mail
         requires { place < length self.old.mails }
@@ -197,7 +197,7 @@ impl Pool {
         take_out(&mut self.row, place as usize)
     }
 
-    /// The index of the mail with this id; None if there is none.
+    /// The index of the message with this id; None if there is none.
     pub fn place_of(&self, id: MailId) -> Option<u32>
         ensures place { result ≡ position (of_id id) self.now.mails }
         ensures none { IsNone result ↔ (count_of id self.now.mails ≡ 0) }
@@ -206,14 +206,14 @@ impl Pool {
         found_place(&self.places, self.row.as_slice(), id)
     }
 
-    /// Whether there is a mail with this id.
+    /// Whether there is a message with this id.
     pub fn has(&self, id: MailId) -> bool
         ensures { result ≡ has_id id self.now.mails }
     {
         self.place_of(id).is_some()
     }
 
-    /// How many mails there are.
+    /// How many messages there are.
     #[inline(always)]
     pub fn count(&self) -> u32
         ensures count { result ≡ length self.now.mails }
@@ -222,7 +222,7 @@ impl Pool {
         self.row.len() as u32
     }
 
-    /// The mail at this place.
+    /// The message at this place.
     #[inline(always)]
     pub fn at(&self, place: u32) -> Mail
         requires { place < length self.now.mails }

@@ -1,5 +1,6 @@
 -- The program's answer to a fuel and a text.
 use Rattle.std.specs.Prelude.{◌≡◌, ◌≢◌, ◌⊎◌, ℕ, ◌≤◌, List, length}
+use Rattle.dn_base.specs.declared.limits.TheConstants.{MOST_WORDS}
 use Rattle.dn_base.specs.declared.status.Outcome as outcome
 use Rattle.rv_core.specs.declared.ending.Ending.{Ending}
 use Rattle.common_outcomes.specs.Laws.{IsCommonTo}
@@ -21,7 +22,7 @@ OutcomesReply = Output OutcomesStatus
 
 -- the numbers of words and tasks are within the limits of a program
 abbrev pub IsOutcomesPrintable : Outcomes → Type 0
-IsOutcomesPrintable (Settled common) = (length common.memory ≤ 65536) × (length common.tasks ≤ 64)
+IsOutcomesPrintable (Settled common) = (length common.memory ≤ MOST_WORDS) × (length common.tasks ≤ 64)
 IsOutcomesPrintable (Open why) = Unit {0}
 
 abbrev pub settled_reply : List ℕ → OutcomesReply

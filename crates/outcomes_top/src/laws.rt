@@ -1,4 +1,4 @@
-//! Laws of what is printed. A law is a function without effect; its contract states the theorem.
+//! Theorems of what is printed. A theorem is a function without effect; its contract states the theorem.
 ghost use Rattle.std.specs.Prelude.{◌≡◌, ◌≢◌, ℕ, List, [], length, Ok, Some};
 ghost use Rattle.dn_base.specs.declared.ids.Grant.{Grant};
 ghost use Rattle.region_table.specs.Program.{ProgramParts};
@@ -14,9 +14,9 @@ ghost use Rattle.run_report.specs.Answer.{answer_of};
 ghost use Rattle.outcomes_top.specs.declared.status.OutcomesStatus.TheVariants.{Settled, Refused};
 ghost use Rattle.outcomes_top.specs.Answers.{OutcomesReply, IsOutcomesAnswer, HasPrinted, settled_reply};
 
-/// If the program prints of a text what its runs have in common, then for every order of grants, that is every legal and whole
-/// list, the flat machine's run has the outcome and the ends of tasks that are printed, and the value of each word that has no
-/// line `varies`. No such run is stuck.
+/// If the program prints of a text what its runs have in common, then for every order of grants, that is every legal and maximal
+/// list, the reference machine's run has the outcome and the ends of tasks that are printed, and the value of each word that has
+/// no line `varies`. No such run is stuck.
 pub fn every_order_of_grants_has_what_is_printed()
     ensures { (fuel : ℕ) (text : List ℕ) (out : OutcomesReply) (P : ProgramParts) (gs : List Grant) (e : FlatEnd) → IsOutcomesAnswer fuel text out → out.status ≡ Settled
         → source text ≡ Ok P → flat_end P fuel gs ≡ Some e → HasPrinted out.bytes e.ending }
@@ -28,8 +28,8 @@ pub fn every_complete_run_has_what_is_printed()
         → source text ≡ Ok C.program → IsReady C → IsCompleteRun (initial_state C) events → HasPrinted out.bytes (ending_of_run (initial_state C) events) }
 {}
 
-/// Of a text without locks that isn't refused, what is printed is settled, and it is the answer of the flat machine's run without
-/// grants.
+/// Of a text without locks that isn't refused, what is printed is settled, and it is the answer of the reference machine's run
+/// without grants.
 pub fn without_locks_the_answer_of_the_flat_machine_is_printed()
     ensures { (fuel : ℕ) (text : List ℕ) (out : OutcomesReply) (P : ProgramParts) (e : FlatEnd) → IsOutcomesAnswer fuel text out → out.status ≢ Refused → source text ≡ Ok P
         → length P.locks ≡ 0 → flat_end P fuel [] ≡ Some e → out ≡ settled_reply (answer_of e.ending) }

@@ -39,13 +39,13 @@ impl Program for CommonOutcomes {
     }
 }
 
-/// The whole program except its `main`: answers these command words and this source, and returns how it ended.
+/// The whole program except its `main`: answers these arguments and this source, and returns how it ended.
 ///
 /// The status is `Usage` if the command doesn't take the words; the source is left alone then. Otherwise the source is read to
-/// its end, or to one byte more than a document may have, and `answer` gives the answer and its status. The whole answer is
-/// made before anything is written; then it is written and flushed. The status is `ReadFault` or `WriteFault` if the source or
-/// the sink failed, and `Memory` if there wasn't enough memory. Then the sink has taken at most a prefix of the answer, and
-/// nothing if it didn't fail itself.
+/// its end, or to one byte more than a trace may have, and `answer` gives the answer and its status. The whole answer is made
+/// before anything is written; then it is written and flushed. The status is `ReadFault` or `WriteFault` if the source or the
+/// sink failed, and `Memory` if there wasn't enough memory. Then the sink has taken at most a prefix of the answer, and nothing
+/// if it didn't fail itself.
 pub fn outcomes_main<S: Source, K: Sink>(
     alloc: Global,
     words: &[String],

@@ -8,7 +8,7 @@ use program_outside::{EndStatus, Failure};
 pub enum OutcomesStatus {
     /// What the runs have in common was printed.
     Settled = 0,
-    /// The command doesn't take the command words.
+    /// The command doesn't take the arguments.
     Usage = 1,
     /// The text was refused.
     Refused = 2,

@@ -2,7 +2,7 @@ ghost use Rattle.std.specs.Prelude.{◌≡◌, ◌++◌, ◌<◌, ◌≤◌, len
 ghost use Rattle.outcomes_top.specs.Text.{known_number, printed_ending, varies_line, varies_lines, common_text, open_line};
 
 use common_outcomes::{Common, Kind, Open, Value};
-use dn_base::{Memory, Sequence};
+use dn_base::{MOST_WORDS, Memory, Sequence};
 use region_table::FIRST_DATA_ADDRESS;
 use run_report::answer_text;
 use rv_core::{Ending, TaskEnd};
@@ -51,7 +51,7 @@ fn printed_ending(alloc: Global, common: &Common) -> Result<Ending, Memory>
 /// Appends the line of a word that may vary.
 #[tactic(auto, unfolding(crate::specs::Text::varies_line))]
 fn push_varies(out: &mut Vec<u8>, word: u32, value: Value) -> Result<(), Memory>
-    requires { word < 65536 }
+    requires { word < MOST_WORDS }
     ensures { OnOk result (out.new.items ≡ out.old.items ++ varies_line word value) }
 {
     match value.kind {
@@ -66,7 +66,7 @@ fn push_varies(out: &mut Vec<u8>, word: u32, value: Value) -> Result<(), Memory>
 
 /// Appends the lines of the words that may vary.
 fn push_all_varies(out: &mut Vec<u8>, memory: &[Value]) -> Result<(), Memory>
-    requires { length memory.now ≤ 65536 }
+    requires { length memory.now ≤ MOST_WORDS }
     ensures { OnOk result (out.new.items ≡ out.old.items ++ varies_lines 0 memory.now) }
 {
     let mut word = 0;
@@ -83,7 +83,7 @@ fn push_all_varies(out: &mut Vec<u8>, memory: &[Value]) -> Result<(), Memory>
 /// `Memory` where there is no room for the text.
 #[tactic(auto, unfolding(crate::specs::Text::common_text))]
 pub fn common_text(alloc: Global, common: &Common) -> Result<Vec<u8>, Memory>
-    requires words { length common.now.memory ≤ 65536 }
+    requires words { length common.now.memory ≤ MOST_WORDS }
     requires tasks { length common.now.tasks ≤ 64 }
     ensures { IfOk result (λ text. text.items ≡ common_text common.now) }
 {

@@ -7,7 +7,7 @@ use crate::command::outcomes_command;
 use command_words::{WordsFault, matches_by, number};
 use std::alloc::Global;
 
-/// The fuel that the command words ask for, from 1 to 32,768. The program's own name isn't among them.
+/// The fuel that the arguments ask for, from 1 to 32,768. The program's own name isn't among them.
 ///
 /// The command has the option `--fuel`, and takes no other words. The option may be given once at most, as `--fuel 7` or
 /// `--fuel=7`. The default is 32768.

@@ -203,7 +203,7 @@ fn push_queue(
     push(out, b"]")
 }
 
-/// Adds what the keeper is.
+/// Adds what the barrier controller is.
 #[tactic(auto, unfolding(crate::specs::Json::further_all, crate::specs::Rows::tagged))]
 fn push_barrier(
     out: &mut Vec<u8>,

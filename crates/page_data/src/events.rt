@@ -43,7 +43,8 @@ fn push_flying(out: &mut Vec<u8>, machine: &Machine) -> Result<(), Memory>
     push(out, b"]}")
 }
 
-/// Adds what leads to a machine's state from the beginning of its run, the number of each actor's next mail, and the mails in flight.
+/// Adds what leads to a machine's state from the beginning of its run, the number of each actor's next message, and the messages
+/// in flight.
 #[tactic(auto, unfolding(crate::specs::Page::start_part))]
 pub(crate) fn push_start(alloc: Global, out: &mut Vec<u8>, machine: &Machine) -> Result<(), Memory>
     ensures { OnOk result (out.new.items ≡ out.old.items ++ start_part machine.now.state) }
@@ -90,7 +91,7 @@ fn push_row(out: &mut Vec<u8>, first: bool, event: Event, made: &EventMade) -> R
     push_event_tail(out, made)
 }
 
-/// Makes an event, which may come, and adds its row.
+/// Makes an event, which is enabled, and adds its row.
 fn make_row(
     alloc: Global,
     out: &mut Vec<u8>,
@@ -110,7 +111,7 @@ fn make_row(
     }
 }
 
-/// Makes events, which may come one after the other, and adds their rows.
+/// Makes events, which are enabled one after the other, and adds their rows.
 fn make_rows(
     alloc: Global,
     out: &mut Vec<u8>,
@@ -145,7 +146,7 @@ fn push_event_list(
     push(out, b"\n]}\n")
 }
 
-/// Makes events, which may come one after the other, and adds what each does.
+/// Makes events, which are enabled one after the other, and adds what each does.
 #[tactic(auto, unfolding(crate::specs::Page::events_part))]
 pub(crate) fn push_events(
     alloc: Global,
@@ -161,10 +162,10 @@ pub(crate) fn push_events(
     push_event_list(alloc, out, machine, events)
 }
 
-/// Makes events, which may come one after the other.
+/// Makes events, which are enabled one after the other.
 ///
 /// # Errors
-/// `Memory` where there is no room for the mails.
+/// `Memory` where there is no room for the messages.
 pub(crate) fn pass(machine: &mut Machine, events: &[Event]) -> Result<(), Memory>
     requires run { IsRun machine.old.state events.now }
     requires few { machine.old.made + length events.now ≤ 4000000000 }

@@ -1,4 +1,4 @@
-//! What holds of the data of every run. A law is a function without effect; its contract states the theorem.
+//! What holds of the data of every run. A theorem is a function without effect; its contract states the theorem.
 ghost use Rattle.std.specs.Prelude.{◌≡◌, List};
 ghost use Rattle.region_table.specs.declared.declared.Phase.{Phase};
 ghost use Rattle.page_data.specs.Json.{list_text};

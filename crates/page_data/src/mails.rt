@@ -1,4 +1,4 @@
-//! Actors, messages and mails.
+//! Actors, messages and messages.
 ghost use Rattle.std.specs.Prelude.{true, ◌≡◌, ◌++◌, ◌∷◌, ◌+◌, ◌≤◌, [], OnOk};
 ghost use Rattle.page_data.specs.Json.{item_texts, further_all};
 ghost use Rattle.page_data.specs.Rows.{actor_number, flag_number, bit_text, bit_texts, all_bits, signature_text, message_fields, outgoing_fields, outgoing_text, mail_item, handled_text, sent_text};
@@ -11,7 +11,7 @@ use text_pieces::Piece::{Bytes, Long, Number};
 use text_pieces::{push, push_pieces};
 use write_signature::Signature;
 
-/// The number of an actor: cores from 0 on, banks from 16 on, and the keeper.
+/// The number of an actor: cores from 0 on, banks from 16 on, and the barrier controller.
 pub(crate) fn actor_number(actor: Actor) -> u64
     ensures { result ≡ actor_number actor }
 {
@@ -140,7 +140,7 @@ impl Item for Outgoing {
     }
 }
 
-/// Adds a mail in flight.
+/// Adds a message in flight.
 #[tactic(auto, unfolding(crate::specs::Json::further_all, crate::specs::Rows::mail_item))]
 fn push_mail(out: &mut Vec<u8>, mail: &Mail) -> Result<(), Memory>
     ensures { OnOk result (out.new.items ≡ out.old.items ++ mail_item mail.now) }
@@ -159,7 +159,7 @@ fn push_mail(out: &mut Vec<u8>, mail: &Mail) -> Result<(), Memory>
     push(out, b"]")
 }
 
-/// Adds the mails in flight, each after a comma but the first.
+/// Adds the messages in flight, each after a comma but the first.
 pub(crate) fn push_mail_items(out: &mut Vec<u8>, pool: &Pool) -> Result<(), Memory>
     ensures { OnOk result (out.new.items ≡ out.old.items ++ item_texts mail_item true pool.now.mails) }
 {
@@ -172,7 +172,7 @@ pub(crate) fn push_mail_items(out: &mut Vec<u8>, pool: &Pool) -> Result<(), Memo
     Ok(())
 }
 
-/// Adds the sender and the number of the mail that an event handles.
+/// Adds the sender and the number of the message that an event handles.
 #[tactic(auto, unfolding(crate::specs::Json::further_all))]
 pub(crate) fn push_handled(out: &mut Vec<u8>, event: Event) -> Result<(), Memory>
     ensures { OnOk result (out.new.items ≡ out.old.items ++ handled_text event) }

@@ -8,7 +8,7 @@ ghost use Rattle.page_data.specs.Page.{head_part, start_part, events_part, page_
 use crate::events::{pass, push_events, push_start};
 use crate::head::{push_run, push_timing, push_title};
 use crate::program::{push_program, push_sizes};
-use dn_base::{Memory, Sequence, Shape};
+use dn_base::{MOST_EVENTS, Memory, Sequence, Shape};
 use dn_machine::{Machine, a_machine_is_kept};
 use effect_checker::Checked;
 use grant_log::Counts;
@@ -93,7 +93,7 @@ fn push_text(
     requires initial { machine.old.state ≡ initial_state machine.old.state.setting }
     requires made { machine.old.made ≡ 0 }
     requires run { IsRun machine.old.state events.now }
-    requires few { length events.now ≤ 25169664 }
+    requires few { length events.now ≤ MOST_EVENTS }
     ensures { OnOk result (out.new.items ≡ out.old.items ++ page_text machine.old.state.setting events.now page.now) }
 {
     push_head(alloc, out, machine, page, events.len())?;
@@ -113,7 +113,7 @@ fn text_of(
     requires initial { machine.old.state ≡ initial_state machine.old.state.setting }
     requires made { machine.old.made ≡ 0 }
     requires run { IsRun machine.old.state events.now }
-    requires few { length events.now ≤ 25169664 }
+    requires few { length events.now ≤ MOST_EVENTS }
     ensures { IfOk result (λ text. text ≡ page_text machine.old.state.setting events.now page.now) }
 {
     let mut out = Vec::new(alloc);
@@ -132,7 +132,7 @@ fn text_of(
 /// one cache, and any other event at a few words, at each lock, and at what it sends.
 ///
 /// # Errors
-/// `Memory` if there is no room for the machine, its mails or the text.
+/// `Memory` if there is no room for the machine, its messages or the text.
 pub fn page_text(
     alloc: Global,
     checked: Checked,
@@ -143,7 +143,7 @@ pub fn page_text(
 ) -> Result<Sequence<u8>, Memory>
     requires fits { FitsMachine checked shape fuel }
     requires run { IsRunOn checked shape fuel events.now }
-    requires few { length events.now ≤ 25169664 }
+    requires few { length events.now ≤ MOST_EVENTS }
     requires most { page.now.most ≤ 20000 }
     ensures { IfOk result (IsPageOf checked shape fuel events.now page.now) }
 {

@@ -7,7 +7,7 @@ ghost use Rattle.page_data.specs.Program.{size_text, pair_text, value_texts, val
 
 use crate::json::{push_gap, push_named_string, push_string};
 use crate::lists::{Item, push_list, push_named_list};
-use dn_base::{Memory, Name};
+use dn_base::{MOST_WORDS, Memory, Name};
 use dn_machine::Machine;
 use region_table::{
     Interval, Phase, PhasePlan, Program, Region, TaskDecl, WordSet, a_program_is_well_formed,
@@ -61,7 +61,7 @@ fn push_pair(out: &mut Vec<u8>, first: u32, second: u32) -> Result<(), Memory>
 
 /// Adds the first values that aren't 0. There are at most 65,536.
 fn push_value_items(out: &mut Vec<u8>, memory: &[u32]) -> Result<(), Memory>
-    requires { length memory.now ≤ 65536 }
+    requires { length memory.now ≤ MOST_WORDS }
     ensures { OnOk result (out.new.items ≡ out.old.items ++ value_texts true 0 memory.now) }
 {
     let mut first = true;
@@ -79,7 +79,7 @@ fn push_value_items(out: &mut Vec<u8>, memory: &[u32]) -> Result<(), Memory>
 
 #[tactic(auto, unfolding(crate::specs::Program::value_list))]
 fn push_value_list(out: &mut Vec<u8>, memory: &[u32]) -> Result<(), Memory>
-    requires { length memory.now ≤ 65536 }
+    requires { length memory.now ≤ MOST_WORDS }
     ensures { OnOk result (out.new.items ≡ out.old.items ++ value_list memory.now) }
 {
     push(out, b"[")?;
@@ -89,7 +89,7 @@ fn push_value_list(out: &mut Vec<u8>, memory: &[u32]) -> Result<(), Memory>
 
 #[tactic(auto, unfolding(crate::specs::Program::values_text))]
 fn push_values(out: &mut Vec<u8>, memory: &[u32]) -> Result<(), Memory>
-    requires { length memory.now ≤ 65536 }
+    requires { length memory.now ≤ MOST_WORDS }
     ensures { OnOk result (out.new.items ≡ out.old.items ++ values_text memory.now) }
 {
     push(out, b",\"memory\":")?;

@@ -14,7 +14,7 @@ use crate::json::push_named_string;
 use crate::lists::{Item, push_named_list};
 use crate::page::{Page, parted, push_states};
 use crate::program::{push_program, push_sizes};
-use dn_base::{Memory, Sequence, Shape};
+use dn_base::{MOST_EVENTS, Memory, Sequence, Shape};
 use dn_machine::{Machine, a_machine_is_kept};
 use effect_checker::Checked;
 use message_net::Event;
@@ -128,7 +128,7 @@ fn push_data(
     requires initial { machine.old.state ≡ initial_state machine.old.state.setting }
     requires made { machine.old.made ≡ 0 }
     requires run { IsRun machine.old.state events.now }
-    requires few { length events.now ≤ 25169664 }
+    requires few { length events.now ≤ MOST_EVENTS }
     ensures { OnOk result (out.new.items ≡ out.old.items ++ run_data_text machine.old.state.setting events.now told.now) }
 {
     push_data_head(alloc, out, machine, &told.page, events.len())?;
@@ -149,7 +149,7 @@ fn text_of(
     requires initial { machine.old.state ≡ initial_state machine.old.state.setting }
     requires made { machine.old.made ≡ 0 }
     requires run { IsRun machine.old.state events.now }
-    requires few { length events.now ≤ 25169664 }
+    requires few { length events.now ≤ MOST_EVENTS }
     ensures { IfOk result (λ text. text ≡ run_data_text machine.old.state.setting events.now told.now) }
 {
     let mut out = Vec::new(alloc);
@@ -163,7 +163,7 @@ fn text_of(
 /// The premises are those of `page_text`, but there may be as many events as a run has. The text grows with them.
 ///
 /// # Errors
-/// `Memory` if there is no room for the machine, its mails or the text.
+/// `Memory` if there is no room for the machine, its messages or the text.
 pub fn run_data_text(
     alloc: Global,
     checked: Checked,
@@ -174,7 +174,7 @@ pub fn run_data_text(
 ) -> Result<Sequence<u8>, Memory>
     requires fits { FitsMachine checked shape fuel }
     requires run { IsRunOn checked shape fuel events.now }
-    requires few { length events.now ≤ 25169664 }
+    requires few { length events.now ≤ MOST_EVENTS }
     ensures { IfOk result (IsDataOf checked shape fuel events.now told.now) }
 {
     let mut machine = Machine::start(alloc, checked, shape, fuel)?;

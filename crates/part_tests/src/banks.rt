@@ -28,7 +28,7 @@ fn register(core: u32) -> Message {
 }
 
 /// What is said of the first word, which is 3: it is read and registered, registered by another core and read there. The first
-/// registrant's late write-back is answered and not taken. Of a word after the memory nothing is said.
+/// owner's late write-back is answered and not taken. Of a word after the memory nothing is said.
 fn talk_of_a_word() -> [Line; 6] {
     let word = FIRST;
     let late = Message::WriteBack {

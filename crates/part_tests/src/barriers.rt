@@ -5,7 +5,7 @@ use std::test::Fail;
 
 const GO: Verdict = Verdict::Go { phase: PhaseId(1) };
 
-/// An arrival: the core, whether its task was bad, and the keeper's verdict.
+/// An arrival: the core, whether its task was bad, and the barrier controller's verdict.
 type Arrival = (u32, bool, Verdict);
 
 /// In the first phase core 0 arrives twice, and core 2 is unknown.
@@ -22,7 +22,7 @@ const LAST_PHASE: [Arrival; 3] = [
     (0, false, Verdict::Wait),
 ];
 
-/// The place of the first arrival to which the keeper says something else.
+/// The place of the first arrival to which the barrier controller says something else.
 fn first_wrong(keeper: &mut Keeper, arrivals: &[Arrival]) -> Option<usize> {
     for (place, (core, bad, wanted)) in arrivals.iter().enumerate() {
         if keeper.arrived(CoreId(*core), *bad) != *wanted {
@@ -32,7 +32,7 @@ fn first_wrong(keeper: &mut Keeper, arrivals: &[Arrival]) -> Option<usize> {
     None
 }
 
-/// What the keeper says to a message that isn't for it, and to the arrival of core 1.
+/// What the barrier controller says to a message that isn't for it, and to the arrival of core 1.
 fn handled(keeper: &mut Keeper) -> [Verdict; 2] {
     let last = Message::Arrived {
         core: CoreId(1),

@@ -11,13 +11,13 @@ const COPY: Entry = Entry::Valid {
     marked: false,
 };
 
-/// The core is the registrant of a word with the value 1.
+/// The core is the owner of a word with the value 1.
 const OWN: Entry = Entry::Registered {
     value: 1,
     pending: false,
 };
 
-/// The core will be the registrant of a word with the value 1.
+/// The core will be the owner of a word with the value 1.
 const PENDING: Entry = Entry::Registered {
     value: 1,
     pending: true,

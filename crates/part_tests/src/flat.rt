@@ -115,7 +115,7 @@ fn counted(alloc: Global, count: u32) -> Result<End, Memory> {
     end(alloc, LOCKED_COUNTER, grants.as_slice())
 }
 
-/// Whether the least list of the crossed locks has both locks go to core 0 and then to core 1.
+/// Whether the canonical list of the crossed locks has both locks go to core 0 and then to core 1.
 fn is_least(alloc: Global) -> Result<bool, Memory> {
     let checked = checked(alloc, CROSSED_LOCKS)?;
     let list = [grant(0, 0), grant(0, 1), grant(1, 1), grant(1, 0)];

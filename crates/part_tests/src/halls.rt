@@ -13,7 +13,7 @@ use std::marker::Model;
 use std::sync::Wait;
 use std::sync::atomic::{AtomicU32, Ordering};
 
-/// From this stamp on no mail is handled.
+/// From this stamp on no message is handled.
 pub(crate) const LAST_STAMP: u64 = 1 << 63;
 
 /// The worker that makes the bank's steps.
@@ -94,7 +94,7 @@ fn bank(alloc: Global, next: u32, clock: u64) -> Result<BankActor, Memory>
     Ok(BankActor::new(bank, Vec::new(alloc), next, clock))
 }
 
-/// The keeper of one core and one phase, with an empty inbox.
+/// The barrier controller of one core and one phase, with an empty inbox.
 fn keeper(alloc: Global, next: u32, clock: u64) -> KeeperActor
     ensures { (length result.state.keeper.arrived ≡ 1) × (result.state.inbox ≡ []) }
 {
@@ -121,7 +121,7 @@ impl Model for OneHall {
 }
 
 impl OneHall {
-    /// The hall whose bank and keeper have this number for their next mail and this clock.
+    /// The hall whose bank and barrier controller have this number for their next message and this clock.
     pub(crate) fn start(alloc: Global, next: u32, clock: u64) -> Result<OneHall, Memory> {
         let parts = HallParts {
             banks: vec![in alloc; bank(alloc, next, clock)?]?,
@@ -145,7 +145,7 @@ impl OneHall {
         }
     }
 
-    /// Posts a mail to the bank, the core or the keeper.
+    /// Posts a message to the bank, the core or the barrier controller.
     fn post_here<R: Wait>(&mut self, rt: &R, mail: Posted) -> Result<Told, Memory> {
         // for the proof alone: the read brings the invariant, by which the hall has one bank and one port
         let _hall = &self.hall;
@@ -223,14 +223,14 @@ impl OneHall {
         hall.close(alloc, passes)
     }
 
-    /// Closes the hall. How many calls there were of the bank, of the port and of the keeper.
+    /// Closes the hall. How many calls there were of the bank, of the port and of the barrier controller.
     pub(crate) fn calls(self, alloc: Global) -> Result<(usize, usize, usize), Memory> {
         let end = self.close(alloc)?;
         Ok(calls_in(&end))
     }
 }
 
-/// How many calls there were of the bank, of the port and of the keeper.
+/// How many calls there were of the bank, of the port and of the barrier controller.
 fn calls_in(end: &HallEnd) -> (usize, usize, usize) {
     let banks = end.banks.first().map_or(0, |history| history.len());
     let ports = end.ports.first().map_or(0, |history| history.len());

@@ -84,7 +84,7 @@ fn machine(alloc: Global) -> Result<Machine, Memory> {
     Machine::start(alloc, checked, shape, 100)
 }
 
-/// Makes the event that a draw picks, where one may come.
+/// Makes the event that a draw picks, where one is enabled.
 fn step(machine: &mut Machine, draw: u32) -> Result<(), Memory> {
     if machine.made() >= MOST_EVENTS {
         return Ok(());
@@ -113,15 +113,15 @@ fn joined(machine: Machine) -> Machine {
 struct Seen {
     /// How many events were made.
     made: u64,
-    /// An event that may come.
+    /// An event that is enabled.
     pick: Option<Event>,
     /// The value of the word.
     word: u32,
     /// How core 0's task ended.
     end: Option<TaskEnd>,
-    /// The number of core 0's next mail.
+    /// The number of core 0's next message.
     next_mail: u32,
-    /// The actor that may handle core 0's first mail, which asks for the word.
+    /// The actor that may handle core 0's first message, which asks for the word.
     asked: Option<Actor>,
 }
 

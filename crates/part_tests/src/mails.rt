@@ -5,7 +5,7 @@ use message_net::{Actor, Mail, Message, Outgoing, Pool};
 use std::alloc::Global;
 use std::test::Fail;
 
-/// A mail of core 0 to the keeper: the core has arrived, and its task was not bad.
+/// A message of core 0 to the barrier controller: the core has arrived, and its task was not bad.
 fn arrival(number: u32) -> Mail
     ensures { result.id.number ≡ number }
 {
@@ -16,7 +16,7 @@ fn arrival(number: u32) -> Mail
     Outgoing::to_keeper(message).mail(Actor::Core(CoreId(0)), number)
 }
 
-/// A pool of two such mails.
+/// A pool of two such messages.
 fn two_mails(alloc: Global) -> Result<Pool, Memory> {
     let mut pool = Pool::new(alloc);
     pool.post(arrival(0))?;
@@ -25,14 +25,14 @@ fn two_mails(alloc: Global) -> Result<Pool, Memory> {
     Ok(pool)
 }
 
-/// How many mails there are, and the first of them.
+/// How many messages there are, and the first of them.
 fn seen(pool: &Pool) -> (u32, Option<Mail>) {
     let count = pool.count();
     let first = if count > 0 { Some(pool.at(0)) } else { None };
     (count, first)
 }
 
-/// What is taken for the first mail's number, twice, and what is seen before and between.
+/// What is taken for the first message's number, twice, and what is seen before and between.
 fn taken_twice(pool: &mut Pool) -> ([Option<Mail>; 2], [(u32, Option<Mail>); 2]) {
     let first = arrival(0).id;
     let before = seen(pool);

@@ -1,4 +1,4 @@
-//! Talks of one caller with a hall of one core, one bank and the keeper. What the hall tells was counted by hand.
+//! Talks of one caller with a hall of one core, one bank and the barrier controller. What the hall tells was counted by hand.
 use crate::halls::{Ask, LAST_STAMP, OneHall, Told, Visits};
 use bank_hall::Handled;
 use dn_base::{BankId, CoreId, Memory, WordId};
@@ -44,19 +44,19 @@ fn idle(number: u32, stamp: u64) -> Posted {
     posted(CORE, number, BANK, Message::Halt, stamp)
 }
 
-/// A message of the keeper to the core.
+/// A message of the barrier controller to the core.
 fn halt(number: u32, stamp: u64) -> Posted {
     posted(Actor::Keeper, number, CORE, Message::Halt, stamp)
 }
 
-/// The core tells the keeper that it has arrived.
+/// The core tells the barrier controller that it has arrived.
 fn arrival(number: u32, stamp: u64) -> Posted {
     let (core, bad) = (CoreId(0), false);
     let message = Message::Arrived { core, bad };
     posted(CORE, number, Actor::Keeper, message, stamp)
 }
 
-/// The bank handled the core's mail with this number.
+/// The bank handled the core's message with this number.
 fn handled(number: u32, kind: EventKind, stamp: u64, reply: Option<Posted>) -> Told {
     let sender = CORE;
     let stamped = Stamped {
@@ -69,7 +69,7 @@ fn handled(number: u32, kind: EventKind, stamp: u64, reply: Option<Posted>) -> T
     Told::Handled(Some(Handled { stamped, reply }))
 }
 
-/// The keeper halts the cores; its first letter has this number.
+/// The barrier controller halts the cores; its first letter has this number.
 fn halts(first: u32, stamp: u64) -> Told {
     let number = first.wrapping_add(1);
     let core = Actor::Core(CoreId(1));
@@ -93,7 +93,8 @@ fn whole_talk() -> [(Ask, Told); 9] {
     ]
 }
 
-/// The same where bank and keeper have sent three mails each, and have the clock 2. After the last phase the keeper says no more.
+/// The same where bank and barrier controller have sent three messages each, and have the clock 2. After the last phase the
+/// barrier controller says no more.
 fn later_talk() -> [(Ask, Told); 6] {
     let answer = handled(4, EventKind::RegReq, 6, Some(reply(3, 6)));
     let no_verdict = Told::Verdict(Some((10, Verdict::Wait, 4, None)));
@@ -107,7 +108,7 @@ fn later_talk() -> [(Ask, Told); 6] {
     ]
 }
 
-/// The bank and the keeper are spent.
+/// The bank and the barrier controller are spent.
 fn spent_talk() -> [(Ask, Told); 4] {
     [
         (Ask::Post(request(0, 0)), Told::Posted),
@@ -117,7 +118,8 @@ fn spent_talk() -> [(Ask, Told); 4] {
     ]
 }
 
-/// A mail whose stamp is the last stays where it is, and all else as it was. The last mail of an inbox moves into the free place.
+/// A message whose stamp is the last stays where it is, and all else as it was. The last message of an inbox moves into the free
+/// place.
 fn talk_of_last_stamps() -> [(Ask, Told); 12] {
     let answer = handled(1, EventKind::RegReq, 6, Some(reply(0, 6)));
     [
@@ -136,7 +138,7 @@ fn talk_of_last_stamps() -> [(Ask, Told); 12] {
     ]
 }
 
-/// Four mails fill the core's inbox, so that a take, which makes room like any call, has to make it grow.
+/// Four messages fill the core's inbox, so that a take, which makes room like any call, has to make it grow.
 fn talk_of_a_full_port() -> [(Ask, Told); 8] {
     [
         (Ask::Post(halt(0, 5)), Told::Posted),
@@ -165,7 +167,7 @@ fn talk_of_a_full_bank() -> [(Ask, Told); 8] {
     ]
 }
 
-/// How many calls there were of the bank, of the port and of the keeper.
+/// How many calls there were of the bank, of the port and of the barrier controller.
 type Calls = (usize, usize, usize);
 
 /// A hall's life: the first line of its talk in which it tells something else, how many calls there were, and what the gate saw.
@@ -213,7 +215,7 @@ fn life<R: Wait>(
     }
 }
 
-/// The further lives. The bank and the keeper are spent by their numbers or by their clocks.
+/// The further lives. The bank and the barrier controller are spent by their numbers or by their clocks.
 #[derive(Clone, Copy)]
 enum Further {
     Later,

@@ -1,5 +1,5 @@
-//! Laws of the definitions of an arrival and of the letters, for proofs about the barrier.
-//! A law is a function without effect; its contract states the theorem.
+//! Theorems of the definitions of an arrival and of the letters, for proofs about the barrier. A theorem is a function without
+//! effect; its contract states the theorem.
 ghost use Rattle.std.specs.Prelude.{◌≡◌, ◌≢◌, ℕ, ◌+◌, ◌<◌, ◌≤◌, ◌==◌, ◌&&◌, ◌||◌, Bool, true, false, nat_lt, if◌then◌else◌, length, slice_get, Some, count_by};
 ghost use Rattle.message_net.specs.declared.message.Message.{Message};
 ghost use Rattle.message_net.specs.declared.event.EventKind.TheVariants.{Arrived};

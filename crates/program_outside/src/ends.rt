@@ -5,7 +5,7 @@ use dn_base::Sequence;
 /// Why a call of a program comes to no answer.
 #[derive(Clone, Copy)]
 pub enum Failure {
-    /// The command doesn't take the command words.
+    /// The command doesn't take the arguments.
     Usage,
     /// A read of the source failed.
     ReadFault,

@@ -1,5 +1,5 @@
-//! The shell of every program here: it takes the command words, reads a text as a whole, writes the answer as a whole, and ends
-//! with an exit code. A program gives it its words and its answer.
+//! The shell of every program here: it takes the arguments, reads a text as a whole, writes the answer as a whole, and ends with
+//! an exit code. A program gives it its words and its answer.
 #![tactic(auto)]
 
 mod ends;

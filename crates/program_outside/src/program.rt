@@ -13,7 +13,7 @@ use std::process::ExitCode;
 use std::rt::Env;
 use std::{env, io};
 
-/// The exit code of a program whose runtime can't give it the command words. No status has this code.
+/// The exit code of a program whose runtime can't give it the arguments. No status has this code.
 const NO_WORDS: u8 = 9;
 
 /// All texts but the first.
@@ -27,7 +27,7 @@ fn all_but_first(texts: Vec<String>) -> Vec<String>
     rest
 }
 
-/// The command words that the runtime gives, without the program's name. No contract can say which these are.
+/// The arguments that the runtime gives, without the program's name. No contract can say which these are.
 ///
 /// # Errors
 /// An error if the runtime can't give them: one of them isn't valid text, or there is no room for them.
@@ -46,7 +46,7 @@ pub fn exit_code<E: EndStatus>(status: &E) -> ExitCode
     ExitCode::from(status.exit_code())
 }
 
-/// The exit code of a program that got no command words: 9.
+/// The exit code of a program that got no arguments: 9.
 pub fn no_words() -> ExitCode
     ensures { exit_status result ≡ 9 }
 {

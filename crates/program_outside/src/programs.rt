@@ -33,7 +33,7 @@ pub trait Answers {
         ensures { IfOk result (IsAnswer asked.now text.now) };
 }
 
-/// A program whose command words alone say what is made of the text that the source has.
+/// A program whose arguments alone say what is made of the text that the source has.
 ///
 /// `asked_by` is what words ask for, or None if the command doesn't take them.
 pub trait Program: Answers {

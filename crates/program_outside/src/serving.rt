@@ -20,7 +20,7 @@ fn finish<E: EndStatus, K: Sink>(sink: &mut K, bytes: &[u8], status: E) -> E
     }
 }
 
-/// Refuses the command words.
+/// Refuses the arguments.
 pub fn refuse_words<E: EndStatus, K: Sink>(sink: &mut K) -> E
     ensures { IsWritten E.told (usage E.told) (sink_of K.Sink sink.old) (sink_of K.Sink sink.new) result }
 {
@@ -47,7 +47,7 @@ pub fn unread<E: EndStatus>(error: ReadError) -> E
     }
 }
 
-/// Reads the source to its end, or to one byte more than a document may have, and writes the answer to what it had.
+/// Reads the source to its end, or to one byte more than a trace may have, and writes the answer to what it had.
 ///
 /// The whole answer is made before anything is written. Then it is written and flushed.
 pub fn serve<P: Answers, S: Source, K: Sink>(
@@ -65,7 +65,7 @@ pub fn serve<P: Answers, S: Source, K: Sink>(
     }
 }
 
-/// Does what command words ask for with the text of the source.
+/// Does what arguments ask for with the text of the source.
 ///
 /// If the command doesn't take the words, the source is left alone, and a line says so.
 pub fn serve_words<P: Program, S: Source, K: Sink>(

@@ -1,5 +1,5 @@
-//! Laws of acquires and releases, for proofs about a lock's holder and queue.
-//! A law is a function without effect; its contract states the theorem.
+//! Theorems of acquires and releases, for proofs about a lock's holder and queue. A theorem is a function without effect; its
+//! contract states the theorem.
 ghost use Rattle.std.specs.Prelude.{◌≡◌, ◌↔◌, ℕ, ◌+◌, ◌<◌, ◌≤◌, ◌==◌, true, if◌then◌else◌, List, length, Some, None};
 ghost use Rattle.std.specs.List.{All};
 ghost use Rattle.dn_base.specs.declared.ids.CoreId.{CoreId};

@@ -56,7 +56,7 @@ fn say(alloc: Global, verdict: &Verdict) -> Result<Reply, Memory>
 /// The reply with a right claim.
 ///
 /// # Errors
-/// `Refused` if its document would be too large, and `Memory` if there is no room for it.
+/// `Refused` if its run log would be too large, and `Memory` if there is no room for it.
 fn write(alloc: Global, claim: &Claim) -> Result<Reply, Stop>
     requires { IsQuestion claim.now.question }
     ensures reply { IfOk result (λ reply. reply ≡ claim_reply claim.now) }
@@ -161,7 +161,7 @@ fn least(alloc: Global, checked: &Checked, question: Question) -> Result<Reply, 
     write(alloc, &claim)
 }
 
-/// Judges the claim of a document.
+/// Judges the claim of a run log.
 fn judge_document(alloc: Global, document: &[u8]) -> Result<Reply, Stop>
     ensures done { IfOk result (mode_done mode.Judge document.now) }
     ensures stop { IfErr result (IsStop (refused_with mode.Judge document.now)) }
@@ -171,7 +171,7 @@ fn judge_document(alloc: Global, document: &[u8]) -> Result<Reply, Stop>
     Ok(judged(alloc, &checked, &claim)?)
 }
 
-/// Judges the claim of a document, and says what leads from the verdict to the fault.
+/// Judges the claim of a run log, and says what leads from the verdict to the fault.
 fn diagnose_document(alloc: Global, document: &[u8]) -> Result<Reply, Stop>
     ensures done { IfOk result (mode_done mode.Diagnose document.now) }
     ensures stop { IfErr result (IsStop (refused_with mode.Diagnose document.now)) }
@@ -182,10 +182,10 @@ fn diagnose_document(alloc: Global, document: &[u8]) -> Result<Reply, Stop>
     Ok(diagnosed(alloc, &checked, &places, &claim)?)
 }
 
-/// The claim of a document that says nothing of grants and loads.
+/// The claim of a run log that says nothing of grants and loads.
 ///
 /// # Errors
-/// `Refused` with the line of the document's first fault, or of the first thing that it tells beside a question and an answer, and
+/// `Refused` with the line of the run log's first fault, or of the first thing that it tells beside a question and an answer, and
 /// `Memory` where there is no room.
 fn plain_claim_in(alloc: Global, document: &[u8]) -> Result<Claim, Stop>
     ensures ok { IfOk result (IsPlainDocument document.now) }
@@ -198,7 +198,7 @@ fn plain_claim_in(alloc: Global, document: &[u8]) -> Result<Claim, Stop>
     }
 }
 
-/// Judges the answer of a document's claim by what all runs have in common.
+/// Judges the answer of a run log's claim by what all runs have in common.
 fn settled_document(alloc: Global, document: &[u8]) -> Result<Reply, Stop>
     ensures done { IfOk result (mode_done mode.Settled document.now) }
     ensures stop { IfErr result (IsStop (refused_with mode.Settled document.now)) }
@@ -208,7 +208,7 @@ fn settled_document(alloc: Global, document: &[u8]) -> Result<Reply, Stop>
     Ok(settled(alloc, &checked, &claim)?)
 }
 
-/// Writes the claim of the run that goes by the grants of a document.
+/// Writes the claim of the run that goes by the grants of a run log.
 fn answer_document(alloc: Global, document: &[u8]) -> Result<Reply, Stop>
     ensures done { IfOk result (mode_done mode.Answer document.now) }
     ensures stop { IfErr result (IsStop (refused_with mode.Answer document.now)) }
@@ -228,7 +228,7 @@ fn least_document(alloc: Global, document: &[u8]) -> Result<Reply, Stop>
     least(alloc, &checked, question)
 }
 
-/// What each mode does with a document.
+/// What each mode does with a run log.
 fn done(alloc: Global, asked: RefereeMode, document: &[u8]) -> Result<Reply, Stop>
     ensures done { IfOk result (mode_done asked document.now) }
     ensures stop { IfErr result (IsStop (refused_with asked document.now)) }
@@ -242,15 +242,15 @@ fn done(alloc: Global, asked: RefereeMode, document: &[u8]) -> Result<Reply, Sto
     }
 }
 
-/// The answer to a mode and a document.
+/// The answer to a mode and a run log.
 ///
-/// A document that isn't of its form is refused with the line of its first fault. If its text has no checked program, it is
-/// refused as denovo refuses that text, with the same line. In the mode settled a claim that says something of grants or loads is
-/// refused too. In the modes answer and least, a claim that would have more than
-/// 536,870,912 bytes isn't written, but refused as too large.
+/// A run log that isn't of its form is refused with the line of its first fault. If its text has no checked program, it is refused
+/// as denovo refuses that text, with the same line. In the mode settled a claim that says something of grants or loads is refused
+/// too. In the modes answer and least, a claim that would have more than 536,870,912 bytes isn't written, but refused as too
+/// large.
 ///
 /// # Errors
-/// `Memory` where there is no room for what the document tells, the run or the answer.
+/// `Memory` where there is no room for what the run log tells, the run or the answer.
 pub fn answer(alloc: Global, asked: RefereeMode, document: &[u8]) -> Result<Reply, Memory>
     ensures { IfOk result (IsAnswer asked document.now) }
 {

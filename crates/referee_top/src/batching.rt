@@ -41,7 +41,7 @@ fn cut(bytes: &[u8]) -> (&[u8], &[u8])
     (bytes, &[])
 }
 
-/// Whether a document was refused.
+/// Whether a run log was refused.
 fn is_refused(status: RefereeStatus) -> bool
     ensures { result ≡ is_refused status }
 {
@@ -72,7 +72,7 @@ fn push_claim(out: &mut Vec<u8>, number: u32, reply: &Reply) -> Result<(), Memor
 /// # Errors
 /// `Memory` where there is no room for one of them.
 fn answer_each(alloc: Global, mode: RefereeMode, claims: &[u8]) -> Result<Reply, Memory>
-    requires { length claims.now ≤ 536870912 }
+    requires { length claims.now ≤ MOST_OF_DOCUMENT }
     ensures { IfOk result (IsBatch mode claims.now) }
 {
     let mut bytes = Vec::new(alloc);
@@ -114,10 +114,10 @@ fn answer_batch(alloc: Global, mode: RefereeMode, claims: &[u8]) -> Result<Reply
     })
 }
 
-/// The answer to what is asked for and a document, or to several that follow each other.
+/// The answer to what is asked for and a run log, or to several that follow each other.
 ///
 /// # Errors
-/// `Memory` where there is no room for what a document tells, its run or the answer.
+/// `Memory` where there is no room for what a run log tells, its run or the answer.
 pub fn answer_to(alloc: Global, asked: RefereeOptions, document: &[u8]) -> Result<Reply, Memory>
     ensures { IfOk result (IsAnswerTo asked document.now) }
 {

@@ -16,7 +16,7 @@ use run_report::Stop;
 use std::alloc::Global;
 use text_places::{Places, located_program};
 
-/// The refusal of a document, read or to be written, for this fault, which isn't out of memory.
+/// The refusal of a run log, read or to be written, for this fault, which isn't out of memory.
 pub(crate) fn refused(alloc: Global, fault: ClaimFault) -> Stop
     requires { fault ≢ NoMemory }
     ensures { IsStop (λ line. line ≡ refusal_text fault) result }
@@ -27,10 +27,10 @@ pub(crate) fn refused(alloc: Global, fault: ClaimFault) -> Stop
     }
 }
 
-/// What a document claims.
+/// What a run log claims.
 ///
 /// # Errors
-/// `Refused` with the line of the document's first fault, and `Memory` where there is no room.
+/// `Refused` with the line of the run log's first fault, and `Memory` where there is no room.
 pub(crate) fn claim_in(alloc: Global, document: &[u8]) -> Result<Claim, Stop>
     ensures ok { IfOk result (IsClaimDocument document.now) }
     ensures stop { IfErr result (IsStop (IsFaulty HasFault document.now)) }
@@ -42,10 +42,10 @@ pub(crate) fn claim_in(alloc: Global, document: &[u8]) -> Result<Claim, Stop>
     }
 }
 
-/// The question and the order of the grants that a document tells.
+/// The question and the order of the grants that a run log tells.
 ///
 /// # Errors
-/// `Refused` with the line of the document's first fault, and `Memory` where there is no room.
+/// `Refused` with the line of the run log's first fault, and `Memory` where there is no room.
 pub(crate) fn order_in(alloc: Global, document: &[u8]) -> Result<GrantOrder, Stop>
     ensures ok { IfOk result (IsOrderDocument document.now) }
     ensures stop { IfErr result (IsStop (IsFaulty HasOrderFault document.now)) }
@@ -57,10 +57,10 @@ pub(crate) fn order_in(alloc: Global, document: &[u8]) -> Result<GrantOrder, Sto
     }
 }
 
-/// The question that a document tells.
+/// The question that a run log tells.
 ///
 /// # Errors
-/// `Refused` with the line of the document's first fault, and `Memory` where there is no room.
+/// `Refused` with the line of the run log's first fault, and `Memory` where there is no room.
 pub(crate) fn question_in(alloc: Global, document: &[u8]) -> Result<Question, Stop>
     ensures ok { IfOk result (IsQuestionDocument document.now) }
     ensures stop { IfErr result (IsStop (IsFaulty HasQuestionFault document.now)) }

@@ -1,4 +1,4 @@
-//! Laws of the referee's answers. A law is a function without effect; its contract states the theorem.
+//! Theorems of the referee's answers. A theorem is a function without effect; its contract states the theorem.
 ghost use Rattle.std.specs.Prelude.{◌≡◌, ◌≢◌, ◌↔◌, ℕ, List};
 ghost use Rattle.claims.specs.declared.verdict.Verdict.TheVariants.{Agrees as SaysAgrees};
 ghost use Rattle.referee_top.specs.declared.mode.RefereeMode.{RefereeMode};
@@ -7,8 +7,8 @@ ghost use Rattle.referee_top.specs.declared.status.RefereeStatus.TheVariants.{Ag
 ghost use Rattle.referee_top.specs.Answers.{Reply, IsAnswer, verdict_reply};
 ghost use Rattle.referee_top.specs.Laws.{IsClaimOfOneThread};
 
-/// The referee says that a document agrees exactly if it claims what one thread on one memory does by the claimed grants: their
-/// run has an end, with the claimed loads, if loads are claimed, and the claimed answer.
+/// The referee says that a run log agrees exactly if it claims what one thread on one memory does by the claimed grants: their run
+/// has an end, with the claimed loads, if loads are claimed, and the claimed answer.
 pub fn a_claim_agrees_where_one_thread_does()
     ensures { (document : List ℕ) (out : Reply) → IsAnswer Judge document out → (out.status ≡ Agrees) ↔ IsClaimOfOneThread document }
 {}

@@ -1,4 +1,4 @@
-/// What the referee does with a document.
+/// What the referee does with a run log.
 #[derive(Clone, Copy)]
 pub enum RefereeMode {
     /// Takes a claim, and says whether it agrees, or where it first differs.
@@ -14,7 +14,7 @@ pub enum RefereeMode {
     Least,
 }
 
-/// What the command words ask for: a mode, and whether several documents follow each other.
+/// What the arguments ask for: a mode, and whether several documents follow each other.
 #[derive(Clone, Copy)]
 pub struct RefereeOptions {
     pub mode: RefereeMode,

@@ -15,7 +15,7 @@ use dn_base::{Memory, Sink, Source};
 use program_outside::{Answers, Program, serve_words};
 use std::alloc::Global;
 
-/// The program referee: from what is asked for and a document to verdicts, or to a claim.
+/// The program referee: from what is asked for and a run log to verdicts, or to a claim.
 pub struct Referee;
 
 impl Answers for Referee {
@@ -40,13 +40,13 @@ impl Program for Referee {
     }
 }
 
-/// The whole program except its `main`: answers these command words and this source, and returns how it ended.
+/// The whole program except its `main`: answers these arguments and this source, and returns how it ended.
 ///
 /// The status is `Usage` if the command doesn't take the words; the source is left alone then. Otherwise the source is read to
-/// its end, or to one byte more than a document may have, and `answer_to` gives the answer and its status. The whole answer is
-/// made before anything is written; then it is written and flushed. The status is `ReadFault` or `WriteFault` if the source or
-/// the sink failed, and `Memory` if there wasn't enough memory. Then the sink has taken at most a prefix of the answer, and
-/// nothing if it didn't fail itself.
+/// its end, or to one byte more than a run log may have, and `answer_to` gives the answer and its status. The whole answer is made
+/// before anything is written; then it is written and flushed. The status is `ReadFault` or `WriteFault` if the source or the
+/// sink failed, and `Memory` if there wasn't enough memory. Then the sink has taken at most a prefix of the answer, and nothing
+/// if it didn't fail itself.
 pub fn referee_main<S: Source, K: Sink>(
     alloc: Global,
     words: &[String],

@@ -5,7 +5,7 @@ ghost use Rattle.run_report.specs.Answer.{word_line};
 
 use claims::{Verdict, judge_answer};
 use common_outcomes::{Common, Kind, Value};
-use dn_base::{Memory, Sequence};
+use dn_base::{MOST_OF_DOCUMENT, MOST_WORDS, Memory, Sequence};
 use region_table::FIRST_DATA_ADDRESS;
 use run_report::answer_text;
 use rv_core::{Ending, TaskEnd};
@@ -30,7 +30,7 @@ fn behind_value(text: &[u8]) -> Option<&[u8]>
 /// What follows the line of a word up to its value, in a text that begins so.
 #[tactic(auto, unfolding(crate::specs::Settled::word_front))]
 fn behind_front(text: &[u8], word: u32) -> Option<&[u8]>
-    requires { word < 65536 }
+    requires { word < MOST_WORDS }
     ensures { option_map (λ rest. rest.now) result ≡ behind_prefix (word_front word) text.now }
 {
     let rest = behind_prefix(text, b"word ")?;
@@ -40,7 +40,7 @@ fn behind_front(text: &[u8], word: u32) -> Option<&[u8]>
 
 /// What follows the line of a word in a text that begins with it, whatever its value is; else the text.
 fn behind_any(text: &[u8], word: u32) -> &[u8]
-    requires { word < 65536 }
+    requires { word < MOST_WORDS }
     ensures { result.now ≡ behind_any word text.now }
 {
     match behind_front(text, word) {
@@ -51,7 +51,7 @@ fn behind_any(text: &[u8], word: u32) -> &[u8]
 
 /// What follows the line of a word with this value in a text that begins with it. A word that is 0 has no line.
 fn behind_line(text: &[u8], word: u32, value: u32) -> Option<&[u8]>
-    requires { word < 65536 }
+    requires { word < MOST_WORDS }
     ensures { option_map (λ rest. rest.now) result ≡ behind_prefix (word_line word value) text.now }
 {
     if value == 0 {
@@ -64,7 +64,7 @@ fn behind_line(text: &[u8], word: u32, value: u32) -> Option<&[u8]>
 
 /// What follows what an answer should say of a word, in a text that begins so.
 fn behind_word(text: &[u8], word: u32, value: Value) -> Option<&[u8]>
-    requires { word < 65536 }
+    requires { word < MOST_WORDS }
     ensures { option_map (λ rest. rest.now) result ≡ behind_word word value text.now }
 {
     match value.kind {
@@ -87,7 +87,7 @@ fn settled_lines(value: Value) -> u32
 /// The line of a word, without its newline.
 #[tactic(auto, unfolding(crate::specs::Settled::word_bytes, crate::specs::Settled::word_front))]
 fn word_bytes(alloc: Global, word: u32, value: u32) -> Result<Sequence<u8>, Memory>
-    requires { word < 65536 }
+    requires { word < MOST_WORDS }
     ensures { IfOk result (λ line. line ≡ word_bytes word value) }
 {
     let mut line = Vec::new(alloc);
@@ -114,7 +114,7 @@ fn rest_verdict(line: u32, rest: &[u8]) -> Verdict
 /// # Errors
 /// `Memory` where there is no room for the settled line.
 fn judge_words(alloc: Global, memory: &[Value], first: u32, text: &[u8]) -> Result<Verdict, Memory>
-    requires words { length memory.now ≤ 65536 }
+    requires words { length memory.now ≤ MOST_WORDS }
     requires first { first ≤ 66 }
     ensures { IfOk result (λ verdict. verdict ≡ words_verdict first 0 memory.now text.now) }
 {
@@ -161,7 +161,7 @@ fn copied(alloc: Global, ends: &[TaskEnd]) -> Result<Sequence<TaskEnd>, Memory>
 
 /// The settled lines in front of those of the words: those of an answer whose words are all 0.
 fn settled_front(alloc: Global, common: &Common) -> Result<Vec<u8>, Memory>
-    requires words { length common.now.memory ≤ 65536 }
+    requires words { length common.now.memory ≤ MOST_WORDS }
     requires tasks { length common.now.tasks ≤ 64 }
     ensures { IfOk result (λ front. front.items ≡ settled_front common.now) }
 {
@@ -184,9 +184,9 @@ fn settled_front(alloc: Global, common: &Common) -> Result<Vec<u8>, Memory>
 /// `Memory` where there is no room for the settled lines.
 #[tactic(auto, unfolding(crate::specs::Settled::settled_verdict))]
 pub fn judge_settled(alloc: Global, common: &Common, claimed: &[u8]) -> Result<Verdict, Memory>
-    requires words { length common.now.memory ≤ 65536 }
+    requires words { length common.now.memory ≤ MOST_WORDS }
     requires tasks { length common.now.tasks ≤ 64 }
-    requires claimed { length claimed.now ≤ 536870912 }
+    requires claimed { length claimed.now ≤ MOST_OF_DOCUMENT }
     ensures { IfOk result (λ verdict. verdict ≡ settled_verdict common.now claimed.now) }
 {
     let front = settled_front(alloc, common)?;

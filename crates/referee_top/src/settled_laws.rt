@@ -1,4 +1,4 @@
-//! Laws of the mode settled. A law is a function without effect; its contract states the theorem.
+//! Theorems of the mode settled. A theorem is a function without effect; its contract states the theorem.
 ghost use Rattle.std.specs.Prelude.{◌≡◌, ◌≢◌, ◌↔◌, ℕ, List, Ok, Some};
 ghost use Rattle.dn_base.specs.declared.ids.Grant.{Grant as GrantOf};
 ghost use Rattle.region_table.specs.Program.{ProgramParts};
@@ -17,8 +17,8 @@ ghost use Rattle.referee_top.specs.declared.status.RefereeStatus.TheVariants.{Ag
 ghost use Rattle.referee_top.specs.Answers.{Reply as ReplyOf, IsPlainDocument, IsAnswer, verdict_reply};
 ghost use Rattle.referee_top.specs.Laws.{IsClaimOfCommon};
 
-/// In the mode settled the referee says that a document agrees exactly if it is settled what all runs of its text have in common, and
-/// the claimed answer is that of an ending that has this: the outcome, the ends of tasks, and each word that is known.
+/// In the mode settled the referee says that a run log agrees exactly if it is settled what all runs of its text have in common,
+/// and the claimed answer is that of an ending that has this: the outcome, the ends of tasks, and each word that is known.
 pub fn a_claim_agrees_where_an_ending_has_what_is_common()
     ensures { (document : List ℕ) (out : ReplyOf) → IsAnswer Settled document out → (out.status ≡ Agrees) ↔ IsClaimOfCommon document }
 {}

@@ -8,9 +8,9 @@ use program_outside::{EndStatus, Failure};
 pub enum RefereeStatus {
     /// The claim agrees, or a claim that agrees was printed.
     Agrees = 0,
-    /// The command doesn't take the command words.
+    /// The command doesn't take the arguments.
     Usage = 1,
-    /// The document was refused, or its text.
+    /// The run log was refused, or its text.
     Refused = 2,
     /// The claim differs from the run by its grants, or one of the grants isn't legal; or in the mode settled from what all runs have in
     /// common, or that is open.

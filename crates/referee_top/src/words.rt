@@ -98,7 +98,7 @@ fn options(matches: &ArgMatches<'_>) -> Option<RefereeOptions>
     referee_options(mode, batch)
 }
 
-/// What the command words ask for. The program's own name isn't among them.
+/// What the arguments ask for. The program's own name isn't among them.
 ///
 /// The command has the option `--mode`, with the value judge, diagnose, settled, answer or least, and the option `--batch`, with the
 /// value on or off, and takes no other words. Each option may be given once at most, as `--mode least` or `--mode=least`. The defaults are

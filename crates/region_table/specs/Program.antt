@@ -1,5 +1,6 @@
 use Rattle.std.specs.Prelude.{◌≡◌, ◌≢◌, ℕ, ◌+◌, ◌%◌, ◌<◌, ◌≤◌, max, List, [], ◌∷◌, ◌++◌, length, map}
 use Rattle.std.specs.List.{All, AllPairs, flat_map}
+use Rattle.dn_base.specs.declared.limits.TheConstants.{MOST_WORDS}
 use Rattle.region_table.specs.declared.interval.Interval.{Interval}
 use Rattle.region_table.specs.declared.declared.Region.{Region}
 use Rattle.region_table.specs.declared.declared.Effects.{Effects}
@@ -64,7 +65,7 @@ pub record IsPhase (words locks : ℕ) (p : Phase) : Type 0 where
 pub record IsProgram (p : ProgramParts) : Type 0 where
   -- at most 16384 code words, 65536 data words, 4096 regions, 32 locks, 64 phases, and 64 tasks in all
   pub code : length p.code ≤ 16384
-  pub memory : length p.memory ≤ 65536
+  pub memory : length p.memory ≤ MOST_WORDS
   pub regions : length p.regions ≤ 4096
   pub locks : length p.locks ≤ 32
   pub phases : length p.phases ≤ 64

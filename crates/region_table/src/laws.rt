@@ -1,5 +1,5 @@
-//! Laws of programs: what holds of the tasks of every program, and of the plans of its phases. A law is a function without
-//! effect; its contract states the theorem.
+//! Theorems of programs: what holds of the tasks of every program, and of the plans of its phases. A theorem is a function
+//! without effect; its contract states the theorem.
 ghost use Rattle.std.specs.Prelude.{◌≡◌, ◌<◌, ℕ, List, [], IsTrue, length, slice_get, slice_index_or, Some};
 ghost use Rattle.std.specs.List.{IsAmong};
 ghost use Rattle.region_table.specs.declared.declared.TaskDecl.{TaskDecl};

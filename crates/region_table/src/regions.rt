@@ -8,13 +8,13 @@ use crate::interval::Interval;
 use crate::merging::join;
 use crate::searching::first_past;
 use crate::words::WordSet;
-use dn_base::Memory;
+use dn_base::{MOST_WORDS, Memory};
 use std::alloc::Global;
 
 /// Whether the intervals have a word of the region, by a binary search.
 fn has_word_of(words: &[Interval], region: &Region) -> bool
     requires canonical { IsCanonical words.now }
-    requires within { region.now.start + region.now.len ≤ 65536 }
+    requires within { region.now.start + region.now.len ≤ MOST_WORDS }
     ensures { result ≡ overlaps words.now region.now }
 {
     match first_past(words, region.start) {
@@ -30,7 +30,7 @@ pub(crate) fn whole_regions(
     words: &[Interval],
 ) -> Result<WordSet, Memory>
     requires canonical { IsCanonical words.now }
-    requires tiled { (size : ℕ) × (size ≤ 65536) × AreTiled 0 regions.now size }
+    requires tiled { (size : ℕ) × (size ≤ MOST_WORDS) × AreTiled 0 regions.now size }
     ensures { IfOk result (λ whole. (w : ℕ) → has whole w ≡ in_overlapped regions.now words.now w) }
 {
     let mut out = Vec::new(alloc);

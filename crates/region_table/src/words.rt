@@ -6,7 +6,7 @@ ghost use Rattle.region_table.specs.Words.{has, IsCanonical, IsUnion, IsCommon, 
 use crate::interval::Interval;
 use crate::merging::{all_joined, by_starts, least_common_word, merged};
 use crate::searching::first_past;
-use dn_base::{Memory, WordId};
+use dn_base::{MOST_WORDS, Memory, WordId};
 use std::alloc::Global;
 use std::marker::Model;
 
@@ -47,7 +47,7 @@ impl WordSet {
     /// `Memory` where there is no room.
     pub fn range(alloc: Global, lo: u32, hi: u32) -> Result<WordSet, Memory>
         requires some { lo < hi }
-        requires within { hi ≤ 65536 }
+        requires within { hi ≤ MOST_WORDS }
         ensures { IfOk result (λ set. set ≡ record { lo = lo; hi = hi } ∷ []) }
     {
         let mut intervals = Vec::new(alloc);

@@ -217,7 +217,7 @@ impl Node {
         }
     }
 
-    /// A store to the word retires. The core is the word's registrant then, or is to be it.
+    /// A store to the word retires. The core is the word's owner then, or is to be it.
     #[inline(always)]
     fn write(
         &mut self,
@@ -244,7 +244,7 @@ impl Node {
         self.wait = NodeWait::None;
     }
 
-    /// A store to the word retires, and asks the word's home to make the core its registrant.
+    /// A store to the word retires, and asks the word's home to make the core its owner.
     #[inline(always)]
     fn register(
         &mut self,

@@ -1,5 +1,5 @@
-//! Laws of a node's events, for proofs about the machine.
-//! A law is a function without effect; its contract states the theorem.
+//! Theorems of a node's events, for proofs about the machine. A theorem is a function without effect; its contract states the
+//! theorem.
 ghost use Rattle.std.specs.Prelude.{◌≡◌, ℕ, ◌+◌, ◌<◌, ◌==◌, Bool, Option, Some, None, IfSome, true, false, length, slice_get, if◌then◌else◌};
 ghost use Rattle.dn_base.specs.declared.ids.CoreId.{CoreId};
 ghost use Rattle.dn_base.specs.declared.ids.LockId.{LockId};
@@ -64,7 +64,7 @@ pub fn a_store_writes_one_word()
         → written_now C n ≡ written_by C t word whole (entry_of n word.0) }
 {}
 
-/// Only the keeper's messages and an arrival change a node's phase and flags.
+/// Only the barrier controller's messages and an arrival change a node's phase and flags.
 pub fn a_node_keeps_its_phase()
     ensures instr { (C : Setting) (n : NodeParts) → KeepsPhase n (instructed C n).0 }
     ensures evict { (C : Setting) (n : NodeParts) (word : WordId) → KeepsPhase n (evicted C n word).0 }
@@ -78,7 +78,7 @@ pub fn a_permission_tells_of_its_node()
     ensures arrive { (n : NodeParts) → may_arrive n ≡ true → MayArrive n }
 {}
 
-/// A node's own event may come.
+/// A node's own event is enabled.
 pub fn an_own_event_may_come()
     ensures { (C : Setting) (n : NodeParts) (e : Event) → own_event C n ≡ Some e → MayCome C n e }
 {}
@@ -141,8 +141,8 @@ pub fn mails_are_of_the_machine()
     ensures receive { (C : Setting) (n : NodeParts) (m : Message) → IsContext C → NamesOwn C m → IfSome (node_gets C n m).1.sent (IsFor C) }
 {}
 
-/// A node that isn't halted, hasn't arrived and has no own event waits for a value or a lock, or has an entry that is pending
-/// or leaving. If the value of a word has come, its instruction may come.
+/// A node that isn't halted, hasn't arrived and has no own event waits for a value or a lock, or has an entry that is pending or
+/// leaving. If the value of a word has come, its instruction is enabled.
 pub fn a_still_node_waits()
     ensures { (C : Setting) (n : NodeParts) → Fits C n → 0 < C.shape.ways → n.arrived ≡ false → n.halted ≡ false → IsStill C n
         → ((word : WordId) → n.waiting ≡ Filled word → lets n (need_now C n) ≡ true) → IsWaiting n }

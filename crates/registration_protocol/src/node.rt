@@ -155,15 +155,15 @@ impl Node {
         !(self.halted || self.arrived) && ready
     }
 
-    /// Whether the node's next instruction may come. Takes no memory.
+    /// Whether the node's next instruction is enabled. Takes no memory.
     pub fn may_instr(&self, context: &Context<'_>) -> bool
         ensures { result ≡ may_instr (setting context.now) self.now }
     {
         self.is_ready() && self.outlook(self.need(context)).is_clear()
     }
 
-    /// The node, which must be allowed to (`may_arrive`), arrives at the barrier, and tells the keeper whether its task was
-    /// bad. Takes no memory.
+    /// The node, which must be allowed to (`may_arrive`), arrives at the barrier, and tells the barrier controller whether its
+    /// task was bad. Takes no memory.
     pub fn arrive(&mut self) -> Outgoing
         requires { may_arrive self.old ≡ true }
         ensures node { self.new ≡ (arrives self.old).0 }
@@ -271,7 +271,7 @@ impl Node {
         }
     }
 
-    /// The home of a word says that the core is its registrant.
+    /// The home of a word says that the core is its owner.
     #[inline(always)]
     pub(crate) fn acknowledged(&mut self, word: WordId)
         ensures node { self.new ≡ (reg_ack_row self.old word (entry_of self.old word.0)).0 }
@@ -291,7 +291,7 @@ impl Node {
         }
     }
 
-    /// Another core is the registrant of a word now.
+    /// Another core is the owner of a word now.
     #[inline(always)]
     pub(crate) fn forwarded(&mut self, word: WordId, core: CoreId) -> Outgoing
         ensures node { self.new ≡ (reg_fwd_row self.old word core (entry_of self.old word.0)).0 }

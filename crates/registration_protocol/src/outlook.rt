@@ -11,7 +11,7 @@ use word_cache::{Entry, Probe};
 /// What a node's cache says of the next instruction.
 #[derive(Clone, Copy)]
 pub(crate) enum Outlook {
-    /// It may come.
+    /// It is enabled.
     Goes,
     /// It may not, and no eviction would help: there is no instruction, or its word is leaving, or an entry is pending.
     Stalls,

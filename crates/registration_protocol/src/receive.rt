@@ -113,7 +113,7 @@ impl Node {
         self.arrived = false;
     }
 
-    /// The keeper says that the phase begins.
+    /// The barrier controller says that the phase begins.
     fn go(&mut self, context: &Context<'_>, phase: PhaseId)
         requires context { IsContext (setting context.now) }
         requires fits { Fits (setting context.now) self.old }
@@ -198,7 +198,7 @@ impl Node {
     }
 
     /// What a node does on a message: the value of a word, an acknowledgement, a forwarded registration or read, the grant of a
-    /// lock, or the keeper's Go and Halt.
+    /// lock, or the barrier controller's Go and Halt.
     ///
     /// A message that comes where none of these says anything changes nothing and sends nothing. Takes no memory.
     #[inline(always)]

@@ -4,7 +4,7 @@ ghost use Rattle.message_net.specs.Mail.{to_core};
 ghost use Rattle.registry_bank.specs.declared.bank.BankWord.TheVariants.{Home};
 ghost use Rattle.registry_bank.specs.Bank.{BankParts, initial_bank, own_of, is_here, bank_word, bank_lock, lock_index, with_word, with_lock, reads, registers, takes_back, acquires, releases, grants, hands_on, from_core, bank_gets};
 
-use dn_base::{BankId, CoreId, LockId, Memory, WordId, quotient, remainder};
+use dn_base::{BankId, CoreId, LockId, MOST_WORDS, Memory, WordId, quotient, remainder};
 use message_net::{Message, Outgoing};
 use queue_lock::LockHome;
 use std::alloc::Global;
@@ -55,7 +55,7 @@ fn send(core: CoreId, message: Message) -> Option<Outgoing>
 fn own_words(alloc: Global, bank: u32, banks: u32, memory: &[u32]) -> Result<Vec<BankWord>, Memory>
     requires bank { bank < banks }
     requires banks { banks ≤ 16 }
-    requires memory { length memory.now ≤ 65536 }
+    requires memory { length memory.now ≤ MOST_WORDS }
     ensures { IfOk result (λ words. words.items ≡ map (λ (value : ℕ). Home value) (own_of bank banks 0 memory.now)) }
 {
     let mut words = Vec::new(alloc);
@@ -138,7 +138,7 @@ impl Bank {
         requires banks { banks ≤ 16 }
         requires some { 1 ≤ cores }
         requires cores { cores ≤ 16 }
-        requires memory { length memory.now ≤ 65536 }
+        requires memory { length memory.now ≤ MOST_WORDS }
         requires locks { locks ≤ 32 }
         ensures { IfOk result (λ b. b ≡ initial_bank bank.0 banks cores memory.now locks) }
     {

@@ -1,5 +1,5 @@
-//! Laws of a bank's messages, for proofs about the machine.
-//! A law is a function without effect; its contract states the theorem.
+//! Theorems of a bank's messages, for proofs about the machine. A theorem is a function without effect; its contract states the
+//! theorem.
 ghost use Rattle.std.specs.Prelude.{◌≡◌, ℕ, false, None, ◌<◌, ◌≤◌, ◌==◌, Some, List, if◌then◌else◌, length};
 ghost use Rattle.dn_base.specs.declared.ids.CoreId.{CoreId};
 ghost use Rattle.dn_base.specs.declared.ids.WordId.{WordId};

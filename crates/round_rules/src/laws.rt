@@ -1,5 +1,5 @@
-//! What holds of rounds, for callers that let workers make them.
-//! A law is a function without effect; its contract states the theorem.
+//! What holds of rounds, for callers that let workers make them. A theorem is a function without effect; its contract states the
+//! theorem.
 ghost use Rattle.std.specs.Prelude.{◌≡◌, ℕ, ◌≤◌, List, ◌++◌};
 ghost use Rattle.dn_base.specs.declared.ids.CoreId.{CoreId};
 ghost use Rattle.dn_base.specs.declared.ids.Shape.{Shape};
@@ -31,7 +31,7 @@ pub fn passes_follow_one_another()
     ensures notes { (shape : Shape) (a : Actor) (first more : List Act) → notes_by shape a (first ++ more) ≡ notes_by shape a first ++ notes_by shape a more }
 {}
 
-/// If every worker makes at least one pass, a round has an event of each actor to which a mail was in flight at the start, and
+/// If every worker makes at least one pass, a round has an event of each actor to which a message was in flight at the start, and
 /// of each core whose node had an own event.
 pub fn whoever_has_something_to_do_acts()
     ensures { (C : Setting) (S T : State) (r : Round) → IsReached C S → C.shape.cores ≤ 16 → IsJoined C S T r → HaveBegun C S r → AllHaveActed C S r }
@@ -42,21 +42,21 @@ pub fn no_object_is_spent()
     ensures { (C : Setting) (S T : State) (r : Round) → IsReached C S → C.shape.cores ≤ 16 → IsJoined C S T r → AreUnspent C S r }
 {}
 
-/// In the histories of a round, each step of a bank, each take from a core's port and each step of the keeper is a call by the
-/// worker that owns it.
+/// In the histories of a round, each step of a bank, each take from a core's port and each step of the barrier controller is a
+/// call by the worker that owns it.
 pub fn steps_are_of_owners()
     ensures { (C : Setting) (S T : State) (r : Round) → IsJoined C S T r → AreOwners r }
 {}
 
-/// In the merged list of a round, the entries of a bank, and of the keeper, are the answers of its history, and the mails that
-/// a core handles are those that the history of its port gave, in the order of the histories.
+/// In the merged list of a round, the entries of a bank, and of the barrier controller, are the answers of its history, and the
+/// messages that a core handles are those that the history of its port gave, in the order of the histories.
 pub fn the_one_list_tells_the_histories()
     ensures answers { (C : Setting) (S T : State) (r : Round) → IsJoined C S T r → AreAnswers C r }
     ensures mails { (C : Setting) (S T : State) (r : Round) → IsJoined C S T r → AreGivenMails C r }
 {}
 
-/// No actor's next mail ever has a number above 25,169,664, the greatest number of events of a run: each mail that was sent has
-/// been handled or still can be, so it has an event of one run.
+/// No actor's next message ever has a number above 25,169,664, the greatest number of events of a run: each message that was sent
+/// has been handled or still can be, so it has an event of one run.
 pub fn mail_numbers_stay_low()
     ensures { (C : Setting) (S T : State) (r : Round) → IsReached C S → IsJoined C S T r → AreNumbersLow C S T r }
 {}

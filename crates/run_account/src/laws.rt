@@ -1,5 +1,5 @@
-//! Which numbers of an account add up, for readers of an account.
-//! A law is a function without effect; its contract states the theorem.
+//! Which numbers of an account add up, for readers of an account. A theorem is a function without effect; its contract states the
+//! theorem.
 ghost use Rattle.std.specs.Prelude.{◌≡◌, ℕ, ◌+◌, ◌<◌, ◌≤◌, true, List};
 ghost use Rattle.message_net.specs.declared.event.Event.{Event};
 ghost use Rattle.message_net.specs.declared.event.EventKind.TheVariants.{DataReply, Grant, Evict};

@@ -44,11 +44,11 @@ pub enum Measure {
     UntoldCopies,
     /// Entries that are removed by a RegFwd.
     Taken,
-    /// DataReply mails that a bank sent.
+    /// DataReply messages that a bank sent.
     RepliesHome,
-    /// DataReply mails that a core sent.
+    /// DataReply messages that a core sent.
     RepliesCore,
-    /// ReadFwd mails that a core sends back.
+    /// ReadFwd messages that a core sends back.
     Bounces,
     /// Evictions of a copy.
     EvictedCopies,
@@ -58,8 +58,8 @@ pub enum Measure {
     GrantsAtOnce,
     /// Grants of a lock that was handed on to the next core of its queue.
     GrantsQueued,
-    /// Mails of the kinds ReadReq to WbAck that are handled. They count for the core that they serve: the reader, the core that registers the
-    /// word, or the one that writes it back.
+    /// Messages of the kinds ReadReq to WbAck that are handled. They count for the core that they serve: the reader, the core
+    /// that registers the word, or the one that writes it back.
     Messages,
     /// Loads that retire after a wait for their word.
     WaitsRead,

@@ -36,7 +36,7 @@ impl Account {
         }
     }
 
-    /// Notes the handling of a mail to a core.
+    /// Notes the handling of a message to a core.
     #[tactic(auto, using(crate::proofs::After::after_core_mail, crate::proofs::After::after_no_core))]
     fn note_core_mail(&mut self, machine: &Machine, id: MailId, core: CoreId, mail: Mail)
         requires mail { (removed id machine.now.state.mails).0 ≡ Some mail }
@@ -50,7 +50,7 @@ impl Account {
         }
     }
 
-    /// Notes the handling of a mail to a bank.
+    /// Notes the handling of a message to a bank.
     #[tactic(auto, using(crate::proofs::After::after_bank_mail, crate::proofs::After::after_no_bank))]
     fn note_bank_mail(&mut self, machine: &Machine, id: MailId, bank: BankId, mail: Mail)
         requires mail { (removed id machine.now.state.mails).0 ≡ Some mail }
@@ -65,7 +65,7 @@ impl Account {
         }
     }
 
-    /// Notes the handling of a mail.
+    /// Notes the handling of a message.
     #[tactic(auto, using(crate::proofs::After::after_keeper_mail))]
     fn note_mail(&mut self, machine: &Machine, id: MailId, mail: Mail)
         requires { (removed id machine.now.state.mails).0 ≡ Some mail }
@@ -78,7 +78,7 @@ impl Account {
         }
     }
 
-    /// Notes the handling of the mail with this id, if it is in flight.
+    /// Notes the handling of the message with this id, if it is in flight.
     #[tactic(auto, using(crate::proofs::After::after_no_mail))]
     fn note_handle(&mut self, machine: &Machine, id: MailId)
         ensures { self.new ≡ account_after machine.now.state (event.Handle id) self.old }
@@ -103,10 +103,10 @@ impl Account {
         }
     }
 
-    /// Notes the events that come on a machine, up to the first that may not come. Returns whether all of them came.
+    /// Notes the events that come on a machine, up to the first that is not enabled. Returns whether all of them came.
     ///
     /// # Errors
-    /// `Memory` where there is no room for the mails.
+    /// `Memory` where there is no room for the messages.
     fn note_all(&mut self, machine: &mut Machine, events: &[Event]) -> Result<bool, Memory>
         requires few { machine.old.made + length events.now ≤ 4000000000 }
         ensures leads { result ≡ Ok true → self.new ≡ account_of_run machine.old.state self.old events.now }
@@ -126,7 +126,7 @@ impl Account {
     }
 }
 
-/// The account of the events that come on a machine, in these groups; None if one of them may not come.
+/// The account of the events that come on a machine, in these groups; None if one of them are not enabled.
 ///
 /// # Errors
 /// `Memory` where there is no room.
@@ -149,7 +149,7 @@ fn account_on(
     }
 }
 
-/// The account of the events that come on a machine, in these groups; None if one of them may not come. Fewer than
+/// The account of the events that come on a machine, in these groups; None if one of them are not enabled. Fewer than
 /// 4,000,000,000 events must have come on the machine after them.
 ///
 /// # Errors

@@ -1,5 +1,4 @@
-//! Laws of the numbers of an account.
-//! A law is a function without effect; its contract states the theorem.
+//! Theorems of the numbers of an account. A theorem is a function without effect; its contract states the theorem.
 ghost use Rattle.std.specs.Prelude.{◌≡◌, ℕ, ◌<◌, ◌++◌, true, List, length, slice_get, Some};
 ghost use Rattle.std.specs.List.{All};
 ghost use Rattle.region_table.specs.declared.declared.Region.{Region};

@@ -1,5 +1,5 @@
-//! Laws: which steps keep that a world leads to the flat machine's run by the grants so far, and what that run tells of the
-//! world. A law is a function without effect; its contract states the theorem.
+//! Theorems: which steps keep that a world leads to the reference machine's run by the grants so far, and what that run tells of
+//! the world. A theorem is a function without effect; its contract states the theorem.
 ghost use Rattle.std.specs.Prelude.{◌≡◌, ◌≤◌, ◌+◌, ℕ, List, [], ◌∷◌, ◌++◌, length, map, slice_get, slice_index, Some, None, true, false};
 ghost use Rattle.std.specs.List.{IsAmong};
 ghost use Rattle.dn_base.specs.declared.ids.Grant.{Grant};
@@ -57,7 +57,7 @@ pub fn a_word_comes_to_its_value_in_the_run_by_its_task_alone()
         → slice_get W.tasks i ≡ Some r → loads r w ≡ true → slice_index (segment_alone P fuel W.memory r).memory w ≡ slice_index lead.flat.memory w }
 {}
 
-/// If all tasks are at rest, the world is the state to which it leads. If no phase can begin either, it is the state of the
+/// If all tasks are quiescent, the world is the state to which it leads. If no phase can begin either, it is the state of the
 /// run.
 pub fn a_world_at_rest_is_the_state_of_the_run()
     ensures same { (P : ProgramParts) (fuel : ℕ) (W F : Flat) → IsResting P fuel W → LeadsTo P fuel W F → W ≡ F }
@@ -113,7 +113,7 @@ pub fn no_phase_begins()
 {}
 
 /// If each task of a phase has ended or wants a lock that a task of the phase holds, and no phase begins, the grants are whole,
-/// and the end of the flat machine's run by them shows these tasks and this memory. A program without phases ends at once.
+/// and the end of the reference machine's run by them shows these tasks and this memory. A program without phases ends at once.
 pub fn a_phase_that_stops_has_the_end_of_the_run()
     ensures stops { (P : ProgramParts) (fuel : ℕ) (gs : List Grant) (phase : ℕ) (past : List Started) (p : Phase) (task : TaskDecl → Started) (m : List ℕ)
         → ((d : TaskDecl) → IsAmong p.tasks d → IsStoppedAmong p task (wish P fuel (task d))) → next_phase P (world_of phase past p task m) ≡ None

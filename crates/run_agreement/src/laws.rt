@@ -1,5 +1,5 @@
-//! Laws: how every run of the machine agrees with the flat machine's run by its grants. A law is a function without effect; its
-//! contract states the theorem.
+//! Theorems: how every run of the machine agrees with the reference machine's run by its grants. A theorem is a function without
+//! effect; its contract states the theorem.
 ghost use Rattle.std.specs.Prelude.{◌≡◌, ◌≢◌, ℕ, ◌≤◌, List, false};
 ghost use Rattle.std.specs.List.{All};
 ghost use Rattle.dn_base.specs.declared.status.Outcome.TheVariants.{Done, Stuck};
@@ -15,14 +15,14 @@ ghost use Rattle.machine_rules.specs.Sound.{IsWellFormed};
 ghost use Rattle.run_agreement.specs.Ends.{HasFlatEnd};
 ghost use Rattle.run_agreement.specs.Fronts.{IsFrontOf};
 
-/// In every run of the machine of a checked program, complete or not, the grants so far lead the flat machine to a state, and
-/// the loads of each task so far are a prefix of its loads there.
+/// In every run of the machine of a checked program, complete or not, the grants so far lead the reference machine to a state,
+/// and the loads of each task so far are a prefix of its loads there.
 pub fn every_run_agrees_with_the_flat_run_of_its_grants()
     ensures { (C : Setting) (events : List Event) → IsWellFormed C → IsRun (initial_state C) events → (F : Flat) × IsFrontOf C events F }
 {}
 
-/// The grants of a complete run are a whole list. The flat machine's run by them has the same loads, task by task, and the same
-/// ending: the outcome, the end of each task that started, and the memory of the last state.
+/// The grants of a complete run are a maximal list. The reference machine's run by them has the same loads, task by task, and the
+/// same ending: the outcome, the end of each task that started, and the memory of the last state.
 pub fn every_complete_run_has_the_end_of_the_flat_run()
     ensures { (C : Setting) (events : List Event) → IsWellFormed C → IsCompleteRun (initial_state C) events → HasFlatEnd C events }
 {}

@@ -1,7 +1,8 @@
-//! Why every run of the machine agrees with the flat machine's run by the same grants, and why any tasks that run side by side do.
+//! Why every run of the machine agrees with the reference machine's run by the same grants, and why any tasks that run side by
+//! side do.
 //!
-//! Each event keeps an invariant. The world of a state is made of its tasks, as their nodes have them, and of the memory to
-//! which the stores were applied. This world leads to the state to which the grants so far lead the flat machine.
+//! Each event keeps an invariant. The world of a state is made of its tasks, as their nodes have them, and of the memory to which
+//! the stores were applied. This world leads to the state to which the grants so far lead the reference machine.
 #![tactic(auto)]
 
 mod core_laws;

@@ -1,4 +1,4 @@
-//! What becomes of a word, of a lock and of the keeper.
+//! What becomes of a word, of a lock and of the barrier controller.
 ghost use Rattle.std.specs.Prelude.{◌≡◌, ◌++◌, ◌≤◌, ◌<◌, ◌∷◌, [], length, option_copied, IfOk, OnOk};
 ghost use Rattle.run_changes.specs.Changes.{same_content, home_change, same_holder, same_queue, queue_change, arrived_core, arrived_from, barrier_change};
 
@@ -119,7 +119,7 @@ fn arrived_at(alloc: Global, keeper: &Keeper) -> Result<Sequence<CoreId>, Memory
     Ok(arrived)
 }
 
-/// What the keeper is.
+/// What the barrier controller is.
 fn barrier_of(alloc: Global, keeper: &Keeper) -> Result<Change, Memory>
     ensures { IfOk result (λ change. change ≡ barrier_change keeper.now) }
 {
@@ -130,7 +130,7 @@ fn barrier_of(alloc: Global, keeper: &Keeper) -> Result<Change, Memory>
     })
 }
 
-/// Notes what the keeper is.
+/// Notes what the barrier controller is.
 pub(crate) fn note_barrier(
     alloc: Global,
     out: &mut Vec<Change>,

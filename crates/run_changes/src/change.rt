@@ -48,7 +48,7 @@ pub enum Change {
         holder: Option<CoreId>,
         waiting: Sequence<CoreId>,
     },
-    /// The keeper's phase, whether it has heard of a task that ended badly, and the cores that have arrived.
+    /// The barrier controller's phase, whether it has heard of a task that ended badly, and the cores that have arrived.
     Barrier {
         phase: PhaseId,
         bad: bool,

@@ -1,5 +1,5 @@
-//! What an event changes and leaves alone, for callers that compute the next state from the changes that they are told.
-//! These are laws: functions that do nothing, whose contracts say it.
+//! What an event changes and leaves alone, for callers that compute the next state from the changes that they are told. These are
+//! theorems: functions that do nothing, whose contracts say it.
 ghost use Rattle.std.specs.Prelude.{◌≡◌, ◌≢◌, ◌+◌, ◌++◌, ◌∷◌, [], ℕ, true, length, List, Option, Some, slice_get, slice_set};
 ghost use Rattle.std.specs.List.{fold};
 ghost use Rattle.dn_base.specs.declared.ids.BankId.{BankId};
@@ -34,8 +34,8 @@ pub fn an_event_changes_its_actor_alone()
     ensures keeper { (S : State) (e : Event) → actor_in S e ≢ Some Keeper → (next S e).keeper ≡ S.keeper }
 {}
 
-/// What an event sends joins the mails in flight, after those that are left: they are the mails of the actor that makes the event, numbered
-/// on from its next number, which goes on by as many. A mail that is handled leaves.
+/// What an event sends joins the messages in flight, after those that are left: they are the messages of the actor that makes the
+/// event, numbered on from its next number, which goes on by as many. A message that is handled leaves.
 pub fn what_is_sent_joins_the_mails()
     ensures mails { (S : State) (e : Event) (actor : Actor) → actor_in S e ≡ Some actor
         → (next S e).mails ≡ left_in_flight S e ++ mails_of actor (next_number S actor) (sent_in S e) }
@@ -96,14 +96,15 @@ pub fn a_banks_locks_follow_its_changes()
         → slice_get S.banks bank.0 ≡ Some b → slice_get (next S e).banks bank.0 ≡ Some c → fold (lock_step l) (bank_lock b l) (event_changes S e) ≡ bank_lock c l }
 {}
 
-/// The change of an event of the keeper, applied to what the keeper was, gives what it is after the event.
+/// The change of an event of the barrier controller, applied to what the barrier controller was, gives what it is after the
+/// event.
 pub fn the_keeper_follows_its_changes()
     ensures { (S : State) (e : Event) → enabled S e ≡ true → actor_in S e ≡ Some Keeper → fold keeper_step S.keeper (event_changes S e) ≡ (next S e).keeper }
 {}
 
-/// What is different of a state from the beginning of its machine leads there: applied one after the other, in the order in which they
-/// stand, to what each core, each home of a word and each lock and the keeper are as the run begins, the changes give what they are in the
-/// state.
+/// What is different of a state from the beginning of its machine leads there: applied one after the other, in the order in which
+/// they stand, to what each core, each home of a word and each lock and the barrier controller are as the run begins, the changes
+/// give what they are in the state.
 pub fn what_is_different_leads_there()
     ensures { (S : State) → IsMachine S → Leads (initial_state S.setting) (changes_since S) S }
 {}

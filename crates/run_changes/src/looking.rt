@@ -250,7 +250,7 @@ fn look_at_bank(machine: &Machine, bank: BankId, message: Message) -> Look
     }
 }
 
-/// Looks at the actor that a mail goes to.
+/// Looks at the actor that a message goes to.
 fn look_at_mail(alloc: Global, machine: &Machine, mail: Mail) -> Result<Look, Memory>
     requires { IsMachine machine.now.state }
     ensures { IfOk result (λ look. look ≡ mail_look machine.now.state (Some mail)) }
@@ -262,7 +262,7 @@ fn look_at_mail(alloc: Global, machine: &Machine, mail: Mail) -> Result<Look, Me
     }
 }
 
-/// Looks at the actor that handles the mail with this id.
+/// Looks at the actor that handles the message with this id.
 fn look_at_handle(alloc: Global, machine: &Machine, id: MailId) -> Result<Look, Memory>
     requires { IsMachine machine.now.state }
     ensures { IfOk result (λ look. look ≡ mail_look machine.now.state (removed id machine.now.state.mails).0) }

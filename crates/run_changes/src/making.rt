@@ -97,7 +97,7 @@ fn note_changes(
     }
 }
 
-/// How many mails are left in flight before an event sends any.
+/// How many messages are left in flight before an event sends any.
 fn count_left_by(pool: &Pool, event: Event) -> u32
     ensures { result ≡ count_left_by pool.now.mails event }
 {
@@ -107,7 +107,7 @@ fn count_left_by(pool: &Pool, event: Event) -> u32
     }
 }
 
-/// The messages of the mails from an index on, with their receivers.
+/// The messages of the messages from an index on, with their receivers.
 fn sent_from(alloc: Global, pool: &Pool, left: u32) -> Result<Sequence<Outgoing>, Memory>
     ensures { IfOk result (λ sent. sent ≡ map outgoing_of (drop left pool.now.mails)) }
 {
@@ -122,7 +122,8 @@ fn sent_from(alloc: Global, pool: &Pool, left: u32) -> Result<Sequence<Outgoing>
     Ok(sent)
 }
 
-/// Tells what an event did: what it changed, by what was looked at before it, and which mails stand after those that were left.
+/// Tells what an event did: what it changed, by what was looked at before it, and which messages stand after those that were
+/// left.
 fn told(
     alloc: Global,
     machine: &Machine,
@@ -145,7 +146,7 @@ fn told(
     })
 }
 
-/// Makes an event if it may come, and tells what it did by what was looked at before it.
+/// Makes an event if it is enabled, and tells what it did by what was looked at before it.
 fn make_looked_at(
     alloc: Global,
     machine: &mut Machine,
@@ -167,8 +168,8 @@ fn make_looked_at(
     }
 }
 
-/// Makes an event if it may come. Gives its actor, its kind, what it changed and what it sent. None exactly if it may not come;
-/// the machine is as before then. Fewer than 4,000,000,000 events must have come before.
+/// Makes an event if it is enabled. Gives its actor, its kind, what it changed and what it sent. None exactly if it is not
+/// enabled; the machine is as before then. Fewer than 4,000,000,000 events must have come before.
 ///
 /// A Go or a Grant looks at each place of one cache. An event that handles a lock's message looks at the cores that wait. Any
 /// other event looks at one word, at each lock, and at what is sent.

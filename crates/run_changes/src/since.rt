@@ -13,7 +13,7 @@ use crate::change::{ActorChanges, Change};
 use crate::look::{EntryBefore, LockLook};
 use crate::looking::cached;
 use crate::parts::{locks_held, note, note_entry, note_flag, note_locks, note_wait};
-use dn_base::{BankId, CoreId, LockId, Memory, PhaseId, Sequence, WordId, remainder};
+use dn_base::{BankId, CoreId, LockId, MOST_WORDS, Memory, PhaseId, Sequence, WordId, remainder};
 use dn_machine::{Machine, a_machine_is_kept};
 use message_net::Actor;
 use phase_barrier::Keeper;
@@ -191,7 +191,7 @@ fn add_words(
     memory: &[u32],
 ) -> Result<(), Memory>
     requires machine { IsMachine machine.now.state }
-    requires memory { length memory.now ≤ 65536 }
+    requires memory { length memory.now ≤ MOST_WORDS }
     ensures { OnOk result (out.new ≡ out.old ++ words_since machine.now.state 0 memory.now) }
 {
     let mut word = 0;
@@ -246,7 +246,7 @@ fn add_locks(
     Ok(())
 }
 
-/// Adds what the keeper is.
+/// Adds what the barrier controller is.
 fn add_keeper(
     alloc: Global,
     out: &mut Sequence<ActorChanges>,
@@ -260,8 +260,8 @@ fn add_keeper(
 }
 
 /// How a machine's state differs from the beginning of its run: the changes that lead there from a machine whose homes hold the
-/// initial values, whose locks are free, and in which each core is in phase 0 without entries. Each core's changes begin with
-/// the beginning of its phase, and the keeper's whole state is told.
+/// initial values, whose locks are free, and in which each core is in phase 0 without entries. Each core's changes begin with the
+/// beginning of its phase, and the barrier controller's whole state is told.
 ///
 /// It looks once at each place of the caches, at each data word and at each lock.
 ///

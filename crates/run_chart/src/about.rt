@@ -1,4 +1,4 @@
-//! What events and mails are about, and how a task ends with an event.
+//! What events and messages are about, and how a task ends with an event.
 ghost use Rattle.std.specs.Prelude.{◌≡◌, length, option_copied};
 ghost use Rattle.machine_rules.specs.Sound.{IsMachine};
 ghost use Rattle.message_net.specs.Pool.{removed};

@@ -59,7 +59,7 @@ fn by_bank_message(message: Message) -> Affected
     }
 }
 
-/// The mail in flight with this id, if there is one.
+/// The message in flight with this id, if there is one.
 pub(crate) fn mail_of(pool: &Pool, id: MailId) -> Option<Mail>
     ensures { result ≡ (removed id pool.now.mails).0 }
 {
@@ -69,7 +69,7 @@ pub(crate) fn mail_of(pool: &Pool, id: MailId) -> Option<Mail>
     }
 }
 
-/// The words that a mail affects at the actor that it goes to.
+/// The words that a message affects at the actor that it goes to.
 fn by_mail(mail: Option<Mail>) -> Affected
     ensures { result ≡ affected_by_mail mail }
 {

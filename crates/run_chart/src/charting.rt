@@ -7,7 +7,7 @@ ghost use Rattle.run_chart.specs.Drawing.{begun, empty_drawing};
 use crate::drawing::{Drawing, Range, pass};
 use crate::finishing::{Columns, leaving_mails, shown_banks, waiting_tasks};
 use crate::mails::unknown_mails;
-use dn_base::{Memory, Sequence, Shape};
+use dn_base::{MOST_EVENTS, Memory, Sequence, Shape};
 use dn_machine::{Machine, a_machine_is_kept};
 use effect_checker::Checked;
 use message_chart::{Chart, ChartRow, LeavingMail, WaitingTask};
@@ -66,7 +66,7 @@ pub(crate) struct Frame {
     pub(crate) columns: Columns,
 }
 
-/// The chart of these rows, which end before a line, mails and tasks.
+/// The chart of these rows, which end before a line, messages and tasks.
 fn chart_with(
     alloc: Global,
     frame: Frame,
@@ -156,7 +156,7 @@ impl Drawing {
         requires made { self.old.machine.made ≡ 0 }
         requires line { self.old.line ≡ 0 }
         requires rows { self.old.rows ≡ [] }
-        requires few { length events.now ≤ 25169664 }
+        requires few { length events.now ≤ MOST_EVENTS }
         requires most { range.most ≤ 4096 }
         ensures { IfOk result (IsRangeDrawn self.old.machine range chain.now events.now self.new) }
     {
@@ -202,7 +202,7 @@ impl Drawing {
         requires made { self.old.machine.made ≡ 0 }
         requires line { self.old.line ≡ 0 }
         requires rows { self.old.rows ≡ [] }
-        requires few { length events.now ≤ 25169664 }
+        requires few { length events.now ≤ MOST_EVENTS }
         requires most { frame.range.most ≤ 4096 }
         ensures { IfOk result (λ chart. chart ≡ chart_in frame (drawn self.old.machine frame.range chain.now events.now)) }
     {
@@ -216,21 +216,21 @@ impl Drawing {
 
 /// The message chart of a range of a run's events, with marks for the events whose numbers are in the chain.
 ///
-/// A row tells which actor makes the event, what it is and what it is about, where the mail that it handles comes from, how a
+/// A row tells which actor makes the event, what it is and what it is about, where the message that it handles comes from, how a
 /// task ends with it, and each data word for which the actor holds something else after the event. After the rows come the
-/// mails that an event of the range sent and none of them handles and, if no event follows the range, the tasks that wait for a
-/// lock. The chart goes as far as the events may come one after the other, from the initial machine of the checked program,
+/// messages that an event of the range sent and none of them handles and, if no event follows the range, the tasks that wait for
+/// a lock. The chart goes as far as the events are enabled one after the other, from the initial machine of the checked program,
 /// this shape and this fuel on; all events of a run may.
 ///
 /// The shape must have as many cores as the program needs, 1 to 16 banks, 1 to 256 sets and 1 to 16 ways. A task may retire
 /// `fuel` instructions, 1 to 32,768. There must be at most 25,169,664 events, and the range has at most 4,096.
 ///
-/// An event before the range is only made, and one after it isn't looked at. The cost of an event of the range grows with what
-/// it sends and takes, not with the mails in flight. It looks at the words that it may change: at one, or at a Grant or a Go at
+/// An event before the range is only made, and one after it isn't looked at. The cost of an event of the range grows with what it
+/// sends and takes, not with the messages in flight. It looks at the words that it may change: at one, or at a Grant or a Go at
 /// each of the core's entries. The chain is gone through once, and needn't be in order.
 ///
 /// # Errors
-/// `Memory` if there is no room for the machine, its mails or the rows.
+/// `Memory` if there is no room for the machine, its messages or the rows.
 pub fn chart(
     alloc: Global,
     checked: Checked,
@@ -242,7 +242,7 @@ pub fn chart(
     columns: Columns,
 ) -> Result<Chart, Memory>
     requires fits { FitsMachine checked shape fuel }
-    requires few { length events.now ≤ 25169664 }
+    requires few { length events.now ≤ MOST_EVENTS }
     requires most { range.most ≤ 4096 }
     ensures { IfOk result (IsChartOf checked shape fuel events.now range chain.now columns) }
 {

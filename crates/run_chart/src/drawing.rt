@@ -14,7 +14,7 @@ use crate::gathering::affected_words;
 use crate::mails::{SentMail, after_event, origin_of, place_handled};
 use crate::marks::marks;
 use crate::words::{HeldWord, changes, held_words};
-use dn_base::{Memory, PhaseId, Sequence};
+use dn_base::{MOST_EVENTS, Memory, PhaseId, Sequence};
 use dn_machine::{Machine, a_machine_is_kept};
 use message_chart::{About, ChartRow, Origin, WordChange};
 use message_net::{Actor, Event, MailId, Pool};
@@ -29,8 +29,8 @@ pub struct Range {
     pub most: u32,
 }
 
-/// What is drawn of the events so far: the machine to which they led, the mails in flight with the lines on which they were sent,
-/// the number of the next event, the next line, and the rows.
+/// What is drawn of the events so far: the machine to which they led, the messages in flight with the lines on which they were
+/// sent, the number of the next event, the next line, and the rows.
 #[derive(Drop)]
 pub(crate) struct Drawing {
     pub(crate) machine: Machine,
@@ -43,13 +43,13 @@ pub(crate) struct Drawing {
 /// What is looked at before an event.
 #[derive(Drop)]
 pub(crate) struct Look {
-    /// The place of the mail that it handles.
+    /// The place of the message that it handles.
     pub(crate) place: Option<u32>,
     pub(crate) actor: Actor,
     pub(crate) about: About,
-    /// The keeper's phase.
+    /// The barrier controller's phase.
     pub(crate) phase: PhaseId,
-    /// Where its mail comes from.
+    /// Where its message comes from.
     pub(crate) mail: Option<Origin>,
     /// How the actor's task ends with it.
     pub(crate) end: Option<End>,
@@ -57,13 +57,13 @@ pub(crate) struct Look {
     pub(crate) held: Sequence<HeldWord>,
 }
 
-/// Makes events one after the other, as long as each may come. Returns whether all of them came.
+/// Makes events one after the other, as long as each is enabled. Returns whether all of them came.
 ///
 /// # Errors
-/// `Memory` where there is no room for the mails.
+/// `Memory` where there is no room for the messages.
 pub(crate) fn pass(machine: &mut Machine, events: &[Event]) -> Result<bool, Memory>
     requires made { machine.old.made ≡ 0 }
-    requires few { length events.now ≤ 25169664 }
+    requires few { length events.now ≤ MOST_EVENTS }
     ensures led_to { IfOk result (HaveCome machine.old machine.new events.now) }
     ensures made { OnOk result (machine.new.made ≤ length events.now) }
 {
@@ -76,7 +76,7 @@ pub(crate) fn pass(machine: &mut Machine, events: &[Event]) -> Result<bool, Memo
     Ok(true)
 }
 
-/// The receiver of the mail with this id; the keeper if no mail in flight has the id.
+/// The receiver of the message with this id; the barrier controller if no message in flight has the id.
 fn receiver(pool: &Pool, id: MailId) -> Actor
     ensures { result ≡ the_actor (receiver_of (removed id pool.now.mails).0) }
 {
@@ -86,7 +86,7 @@ fn receiver(pool: &Pool, id: MailId) -> Actor
     }
 }
 
-/// The actor that makes an event, if it may come.
+/// The actor that makes an event, if it is enabled.
 #[tactic(auto, unfolding(dn_machine::specs::Actors::actor_in))]
 fn event_maker(machine: &Machine, event: Event) -> Actor
     ensures { result ≡ event_maker machine.now.state event }
@@ -142,7 +142,7 @@ fn row_lines(end: Option<End>, changes: &[WordChange]) -> u32
     1 + end_lines(end) + changes.len() as u32
 }
 
-/// Makes an event if it may come, and gives its row, with this number and first line; None if it may not.
+/// Makes an event if it is enabled, and gives its row, with this number and first line; None if it is not.
 fn row_of(
     alloc: Global,
     machine: &mut Machine,
@@ -180,7 +180,7 @@ fn row_of(
 }
 
 impl Drawing {
-    /// Adds the row of an event that came and handled the mail at a place, and notes the mails that it sent.
+    /// Adds the row of an event that came and handled the message at a place, and notes the messages that it sent.
     fn note(&mut self, alloc: Global, row: ChartRow, place: Option<u32>) -> Result<(), Memory>
         requires place { (p : ℕ) → place ≡ Some p → p < length self.old.sent }
         requires fewer { length (mails_left place self.old.sent) ≤ length self.old.machine.state.mails }
@@ -202,7 +202,7 @@ impl Drawing {
         self.rows.push(row)
     }
 
-    /// Makes the next event if it may come, and adds its row. Returns whether it came.
+    /// Makes the next event if it is enabled, and adds its row. Returns whether it came.
     fn add_row(&mut self, alloc: Global, event: Event, on_chain: bool) -> Result<bool, Memory>
         requires made { self.old.machine.made < 4000000000 }
         requires event { self.old.event < 4000000000 }
@@ -230,7 +230,7 @@ impl Drawing {
         Ok(true)
     }
 
-    /// Makes the events of the range, as long as each may come, and adds their rows.
+    /// Makes the events of the range, as long as each is enabled, and adds their rows.
     ///
     /// # Errors
     /// `Memory` where there is no room.
@@ -240,8 +240,8 @@ impl Drawing {
         events: &[Event],
         chain: &[u32],
     ) -> Result<(), Memory>
-        requires made { self.old.machine.made ≤ 25169664 }
-        requires event { self.old.event ≤ 25169664 }
+        requires made { self.old.machine.made ≤ MOST_EVENTS }
+        requires event { self.old.event ≤ MOST_EVENTS }
         requires line { self.old.line ≡ 0 }
         requires rows { self.old.rows ≡ [] }
         requires few { length events.now ≤ 4096 }

@@ -19,11 +19,11 @@ use std::alloc::Global;
 pub enum Columns {
     /// All of them.
     All,
-    /// Those that make an event of the range, and those that send or get a mail of the chart.
+    /// Those that make an event of the range, and those that send or get a message of the chart.
     Used,
 }
 
-/// A mail that is in flight after the range; an event of the range sent it on this line.
+/// A message that is in flight after the range; an event of the range sent it on this line.
 fn leaving(mail: Mail, sent: u32, line: u32) -> LeavingMail
     ensures { result ≡ leaving_mail mail sent line }
 {
@@ -37,7 +37,7 @@ fn leaving(mail: Mail, sent: u32, line: u32) -> LeavingMail
     }
 }
 
-/// The mails in flight that events of the range sent, each on a line of its own from this one on.
+/// The messages in flight that events of the range sent, each on a line of its own from this one on.
 ///
 /// # Errors
 /// `Memory` where there is no room.
@@ -117,7 +117,7 @@ fn is_bank(bank: u32, actor: Actor) -> bool
     }
 }
 
-/// Whether a mail comes from a bank.
+/// Whether a message comes from a bank.
 fn comes_from(bank: u32, mail: Option<Origin>) -> bool
     ensures { result ≡ comes_from bank mail }
 {
@@ -127,7 +127,7 @@ fn comes_from(bank: u32, mail: Option<Origin>) -> bool
     }
 }
 
-/// Whether a row is about an event of a bank, or the handling of a mail of it.
+/// Whether a row is about an event of a bank, or the handling of a message of it.
 fn uses_bank(bank: u32, row: &ChartRow) -> bool
     ensures { result ≡ uses_bank bank row.now }
 {
@@ -141,7 +141,7 @@ fn any_uses(bank: u32, rows: &[ChartRow]) -> bool
     rows.iter().any(|row| uses_bank(bank, row))
 }
 
-/// Whether some mail that leaves the chart goes to a bank.
+/// Whether some message that leaves the chart goes to a bank.
 fn any_goes(bank: u32, mails: &[LeavingMail]) -> bool
     ensures { result ≡ list_any (leaves_for bank) mails.now }
 {

@@ -1,5 +1,5 @@
-//! What holds of every chart, said of its rows, for readers of charts.
-//! A law is a function without effect; its contract states the theorem.
+//! What holds of every chart, said of its rows, for readers of charts. A theorem is a function without effect; its contract
+//! states the theorem.
 ghost use Rattle.std.specs.Prelude.{◌≡◌, ℕ, ◌+◌, ◌<◌, ◌≤◌, List, Some, length, map, slice_get};
 ghost use Rattle.std.specs.List.{range_with_len};
 ghost use Rattle.message_net.specs.declared.actor.Actor.TheVariants.{Core};
@@ -37,10 +37,11 @@ pub fn the_events_of_the_chain_are_marked()
         → slice_get (chart_of C events range chain columns).rows i ≡ Some row → row.on_chain ≡ is_on_chain chain row.event }
 {}
 
-/// The arrow of a mail begins at the row of the event that sent it, which is the sender that the run's timing goes by, and in the column
-/// of that event's actor. The arrow of a mail that an event of the range handles ends at that event's row, and begins above all rows
-/// where the sender comes before the range; a row without an arrow handles no mail. Each mail that an event of the range sent and
-/// none of them handles has an arrow too, which ends in the column of the actor that may handle it; no other mail has one.
+/// The arrow of a message begins at the row of the event that sent it, which is the sender that the run's timing goes by, and in
+/// the column of that event's actor. The arrow of a message that an event of the range handles ends at that event's row, and
+/// begins above all rows where the sender comes before the range; a row without an arrow handles no message. Each message that an
+/// event of the range sent and none of them handles has an arrow too, which ends in the column of the actor that may handle it;
+/// no other message has one.
 pub fn arrows_lead_from_the_senders_of_mails()
     ensures rows { (C : Setting) (events : List Event) (range : Range) (chain : List ℕ) (columns : Columns) (i : ℕ) (row : ChartRow) → IsReady C → IsRun (initial_state C) events
         → slice_get (chart_of C events range chain columns).rows i ≡ Some row → TellsSender (initial_state C) events (chart_of C events range chain columns).rows row row.mail }

@@ -1,4 +1,4 @@
-//! The message chart of a run: which row each event of a range has, where its mail comes from, and how words change.
+//! The message chart of a run: which row each event of a range has, where its message comes from, and how words change.
 #![tactic(auto)]
 
 mod about;

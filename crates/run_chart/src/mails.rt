@@ -7,7 +7,7 @@ use message_chart::Origin;
 use message_net::{Event, MailId, Pool};
 use std::alloc::Global;
 
-/// A mail in flight, and the line of the event that sent it; None if that event has no row.
+/// A message in flight, and the line of the event that sent it; None if that event has no row.
 #[derive(Clone, Copy)]
 pub(crate) struct SentMail {
     pub(crate) id: MailId,
@@ -27,7 +27,7 @@ fn line_there(sent: &[SentMail], place: Option<u32>) -> Option<u32>
     }
 }
 
-/// The line that is noted for the mail with an id. The pool gives the index of the mail, and the line has the same index.
+/// The line that is noted for the message with an id. The pool gives the index of the message, and the line has the same index.
 fn line_of(pool: &Pool, sent: &[SentMail], id: MailId) -> Option<u32>
     requires sent { AreNotedFor sent.now pool.now.mails }
     requires distinct { AreDistinct pool.now.mails }
@@ -36,7 +36,7 @@ fn line_of(pool: &Pool, sent: &[SentMail], id: MailId) -> Option<u32>
     line_there(sent, pool.place_of(id))
 }
 
-/// Where the mail comes from that an event handles, if it handles one.
+/// Where the message comes from that an event handles, if it handles one.
 pub(crate) fn origin_of(pool: &Pool, sent: &[SentMail], event: Event) -> Option<Origin>
     requires sent { AreNotedFor sent.now pool.now.mails }
     requires distinct { AreDistinct pool.now.mails }
@@ -51,7 +51,7 @@ pub(crate) fn origin_of(pool: &Pool, sent: &[SentMail], event: Event) -> Option<
     }
 }
 
-/// The index of the mail that an event handles; None if it handles none in flight.
+/// The index of the message that an event handles; None if it handles none in flight.
 pub(crate) fn place_handled(pool: &Pool, event: Event) -> Option<u32>
     ensures { result ≡ place_handled pool.now.mails event }
 {
@@ -61,7 +61,7 @@ pub(crate) fn place_handled(pool: &Pool, event: Event) -> Option<u32>
     }
 }
 
-/// Notes the mails that stand in the pool after those that are noted: they were sent on this line.
+/// Notes the messages that stand in the pool after those that are noted: they were sent on this line.
 ///
 /// # Errors
 /// `Memory` where there is no room.
@@ -79,7 +79,7 @@ fn note_new(sent: &mut Sequence<SentMail>, pool: &Pool, line: Option<u32>) -> Re
     Ok(())
 }
 
-/// The mails in flight, where no event has a row so far.
+/// The messages in flight, where no event has a row so far.
 ///
 /// # Errors
 /// `Memory` where there is no room.
@@ -91,7 +91,7 @@ pub(crate) fn unknown_mails(alloc: Global, pool: &Pool) -> Result<Sequence<SentM
     Ok(sent)
 }
 
-/// Removes the mail at an index. The last one moves to its index, as in the pool.
+/// Removes the message at an index. The last one moves to its index, as in the pool.
 fn without(sent: Sequence<SentMail>, place: u32) -> Sequence<SentMail>
     requires { place < length sent }
     ensures { result ≡ mails_left (Some place) sent }
@@ -101,7 +101,7 @@ fn without(sent: Sequence<SentMail>, place: u32) -> Sequence<SentMail>
     Sequence::from_vec(row)
 }
 
-/// Without the mail at a place, if there is one.
+/// Without the message at a place, if there is one.
 fn mails_left(sent: Sequence<SentMail>, place: Option<u32>) -> Sequence<SentMail>
     requires { (p : ℕ) → place ≡ Some p → p < length sent }
     ensures { result ≡ mails_left place sent }
@@ -112,7 +112,7 @@ fn mails_left(sent: Sequence<SentMail>, place: Option<u32>) -> Sequence<SentMail
     }
 }
 
-/// What is noted after an event that handled the mail at an index, and sent on this line the last mails of the pool.
+/// What is noted after an event that handled the message at an index, and sent on this line the last messages of the pool.
 ///
 /// # Errors
 /// `Memory` where there is no room.

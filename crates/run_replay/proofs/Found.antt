@@ -13,7 +13,6 @@ use Rattle.text_pieces.specs.Field.{field, IsFrom, Stands, NoneStands}
 use Rattle.text_pieces.specs.Parts.{source_part}
 use Rattle.run_replay.specs.Document.{IsNamed, IsMail, FitsDocument, Head, title, shape_line, head_text, mail_line, event_line, event_lines}
 use Rattle.run_replay.specs.Lines.{two_fields, StandTwo, mail_text, AreLines}
-use Rattle.text_pieces.proofs.Forms.{IsOne}
 use Rattle.run_replay.proofs.Forms.{head-parts}
 
 -- ---- one after another

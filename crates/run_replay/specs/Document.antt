@@ -1,5 +1,6 @@
 -- The document of a run: what it tells of the machine and the run, and how that is written.
 use Rattle.std.specs.Prelude.{◌≡◌, ℕ, ◌<◌, ◌≤◌, ◌^◌, All, List, [], ◌++◌, length, codes, flat_map}
+use Rattle.dn_base.specs.declared.limits.TheConstants.{MOST_EVENTS, MOST_OF_TEXT, MOST_WORDS}
 use Rattle.message_net.specs.declared.actor.Actor.{Actor}
 use Rattle.message_net.specs.declared.actor.Actor.TheVariants.{Core, Bank, Keeper}
 use Rattle.message_net.specs.declared.actor.MailId.{MailId}
@@ -33,7 +34,7 @@ IsMail id = IsNamed id.sender × (id.number < 2 ^ 32)
 -- cores have numbers below 16, and words below 65,536
 abbrev pub FitsDocument : Event → Type 0
 FitsDocument (Instr core) = core.0 < 16
-FitsDocument (Evict core word) = (core.0 < 16) × (word.0 < 65536)
+FitsDocument (Evict core word) = (core.0 < 16) × (word.0 < MOST_WORDS)
 FitsDocument (Arrive core) = core.0 < 16
 FitsDocument (Handle id) = IsMail id
 
@@ -46,8 +47,8 @@ pub record Head : Type 0 where
 
 pub record IsHead (h : Head) : Type 0 where
   pub shape : IsTraceShape h.shape
-  pub text : length h.text ≤ 1048576
-  pub count : h.count ≤ 25169664
+  pub text : length h.text ≤ MOST_OF_TEXT
+  pub count : h.count ≤ MOST_EVENTS
 
 abbrev pub head_of : Trace → Head
 head_of t = record { shape = t.shape; text = t.text; count = length t.events }

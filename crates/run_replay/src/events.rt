@@ -20,7 +20,7 @@ fn two_numbers<'a>(bytes: &'a [u8], name: &[u8], most: u32) -> Option<(u32, u32,
     Some((first, second, rest))
 }
 
-/// Reads the line of the handling of a mail at the start of some bytes. Gives the mail and the bytes after it.
+/// Reads the line of the handling of a message at the start of some bytes. Gives the message and the bytes after it.
 fn mail(bytes: &[u8]) -> Option<(MailId, &[u8])>
     ensures some { IfSome result (λ f. Stands IsMail mail_text bytes.now f.0 f.1.now) }
     ensures none { IfNone result (NoneStands IsMail mail_text bytes.now) }

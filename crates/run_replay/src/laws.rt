@@ -1,5 +1,5 @@
-//! Laws of the definitions, for proofs about documents and replays.
-//! A law is a function without effect; its contract states the theorem.
+//! Theorems of the definitions, for proofs about documents and replays. A theorem is a function without effect; its contract
+//! states the theorem.
 ghost use Rattle.std.specs.Prelude.{◌≡◌, ◌≤◌, List, length};
 ghost use Rattle.std.specs.List.{All};
 ghost use Rattle.message_net.specs.declared.event.Event.{Event};
@@ -12,6 +12,8 @@ ghost use Rattle.run_replay.specs.declared.replaying.Replayed.{Replayed};
 ghost use Rattle.run_replay.specs.Document.{FitsDocument, IsTrace, document_of};
 ghost use Rattle.run_replay.specs.Replay.{IsTrueOf};
 
+use dn_base::MOST_OF_DOCUMENT;
+
 /// A document is the document of at most one trace.
 pub fn a_document_is_of_one_trace()
     ensures { (t u : Trace) → IsTrace t → IsTrace u → document_of t ≡ document_of u → t ≡ u }
@@ -19,11 +21,11 @@ pub fn a_document_is_of_one_trace()
 
 /// A document doesn't exceed the greatest size.
 pub fn a_document_is_not_too_large()
-    ensures { (t : Trace) → IsTrace t → length (document_of t) ≤ 536870912 }
+    ensures { (t : Trace) → IsTrace t → length (document_of t) ≤ MOST_OF_DOCUMENT }
 {}
 
-/// Events have at most one replay on the machine of a setting. So a replay that says that they are a complete run, or that they stop
-/// at an event that may not come, or that they are unfinished, is the only one.
+/// Events have at most one replay on the machine of a setting. So a replay that says that they are a complete run, or that they
+/// stop at an event that is not enabled, or that they are unfinished, is the only one.
 pub fn events_have_one_replay()
     ensures { (C : Setting) (events : List Event) (r s : Replayed) → IsTrueOf C events r → IsTrueOf C events s → r ≡ s }
 {}

@@ -8,7 +8,7 @@
 mod events;
 mod head;
 mod laws;
-mod reading;
+mod parsing;
 mod refusal;
 mod replaying;
 mod trace;
@@ -19,7 +19,7 @@ pub use laws::{
     a_document_is_not_too_large, a_document_is_of_one_trace, events_have_one_replay,
     what_a_run_tells_fits_a_document,
 };
-pub use reading::read_trace;
+pub use parsing::read_trace;
 pub use refusal::{TraceRefusal, trace_line};
 pub use replaying::{Replayed, replay};
 pub use trace::{Trace, TraceFault, TraceShape};

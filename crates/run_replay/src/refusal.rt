@@ -13,9 +13,9 @@ use text_pieces::{push, push_decimal};
 pub enum TraceRefusal {
     /// The bytes are no document.
     Fault(TraceFault),
-    /// The event of this number, from 0, may not come in its turn; all events before it may.
+    /// The event of this number, from 0, is not enabled in its turn; all events before it may.
     NotEnabled { number: u32 },
-    /// Another event may come after the events.
+    /// Another event is enabled after the events.
     Incomplete,
 }
 

@@ -6,7 +6,7 @@ ghost use Rattle.dn_machine.specs.Sizes.{FitsMachine};
 ghost use Rattle.run_replay.specs.Replay.{IsTrueOf, IsReplayOf, IsReplayOutcome};
 ghost use Rattle.run_replay.specs.Advance.{HasAdvanced};
 
-use dn_base::{Grant, Memory, Sequence, Shape};
+use dn_base::{Grant, MOST_EVENTS, Memory, Sequence, Shape};
 use dn_machine::{Happened, Log, Machine, a_machine_is_kept};
 use effect_checker::Checked;
 use grant_log::Counts;
@@ -24,11 +24,11 @@ pub enum Replayed {
         grants: Sequence<Grant>,
         counts: Counts,
     },
-    /// The event of this number, from 0, is the first that may not come in its turn.
+    /// The event of this number, from 0, is the first that is not enabled in its turn.
     NotEnabled {
         number: u32,
     },
-    /// Each event may come in its turn, and after them another one.
+    /// Each event is enabled in its turn, and after them another one.
     Incomplete,
 }
 
@@ -43,10 +43,10 @@ fn task_end(machine: &Machine, actor: Actor) -> Option<TaskEnd>
     }
 }
 
-/// Makes an event if it may come; None if it may not.
+/// Makes an event if it is enabled; None if it is not.
 ///
 /// # Errors
-/// `Memory` if there is no room for the mails.
+/// `Memory` if there is no room for the messages.
 fn advance(machine: &mut Machine, event: Event) -> Result<Option<Happened>, Memory>
     requires { machine.old.made < 4000000000 }
     ensures { IfOk result (HasAdvanced machine.old machine.new event) }
@@ -92,7 +92,7 @@ fn finish(alloc: Global, machine: &Machine, log: Log) -> Result<Replayed, Memory
 fn follow_on(alloc: Global, machine: &mut Machine, events: &[Event]) -> Result<Replayed, Memory>
     requires initial { machine.old.state ≡ initial_state machine.old.state.setting }
     requires made { machine.old.made ≡ 0 }
-    requires few { length events.now ≤ 25169664 }
+    requires few { length events.now ≤ MOST_EVENTS }
     ensures { IfOk result (IsTrueOf machine.old.state.setting events.now) }
 {
     let mut log = machine.log(alloc)?;
@@ -112,24 +112,24 @@ fn follow_on(alloc: Global, machine: &mut Machine, events: &[Event]) -> Result<R
 fn follow(alloc: Global, mut machine: Machine, events: &[Event]) -> Result<Replayed, Memory>
     requires initial { machine.state ≡ initial_state machine.state.setting }
     requires made { machine.made ≡ 0 }
-    requires few { length events.now ≤ 25169664 }
+    requires few { length events.now ≤ MOST_EVENTS }
     ensures { IfOk result (IsTrueOf machine.state.setting events.now) }
 {
     follow_on(alloc, &mut machine, events)
 }
 
-/// Replays events on the initial machine of a checked program, each in its turn, as long as they may come.
+/// Replays events on the initial machine of a checked program, each in its turn, as long as they are enabled.
 ///
 /// The answer is `Complete` exactly if the events are a complete run, with its ending, grants and counts. It is `NotEnabled`
-/// exactly if the event of that number is the first that may not come in its turn. It is `Incomplete` exactly if each may come
-/// in its turn and then another one. A complete run ends as the flat machine's run by its grants.
+/// exactly if the event of that number is the first that is not enabled in its turn. It is `Incomplete` exactly if each is
+/// enabled in its turn and then another one. A complete run ends as the reference machine's run by its grants.
 ///
 /// The shape must have as many cores as the program needs, 1 to 16 banks, 1 to 256 sets and 1 to 16 ways. `fuel`, the number of
-/// instructions that a task may retire, must be 1 to 32,768, and there must be at most 25,169,664 events. A mail that is
+/// instructions that a task may retire, must be 1 to 32,768, and there must be at most 25,169,664 events. A message that is
 /// handled is found by its id in constant time, however many are in flight.
 ///
 /// # Errors
-/// `Memory` if there is no room for the machine, its mails or the notes of the events.
+/// `Memory` if there is no room for the machine, its messages or the notes of the events.
 pub fn replay(
     alloc: Global,
     checked: Checked,
@@ -138,7 +138,7 @@ pub fn replay(
     events: &[Event],
 ) -> Result<Replayed, Memory>
     requires fits { FitsMachine checked shape fuel }
-    requires few { length events.now ≤ 25169664 }
+    requires few { length events.now ≤ MOST_EVENTS }
     ensures { IfOk result (IsReplayOf checked shape fuel events.now) }
 {
     let machine = Machine::start(alloc, checked, shape, fuel)?;

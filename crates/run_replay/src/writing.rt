@@ -2,7 +2,7 @@ ghost use Rattle.std.specs.Prelude.{◌≡◌, ◌≤◌, ◌++◌, length, IfOk
 ghost use Rattle.run_replay.specs.Document.{title, shape_line, head_text, mail_line, event_line, event_lines, IsTrace, IsDocument};
 
 use crate::trace::TraceShape;
-use dn_base::Memory;
+use dn_base::{MOST_OF_TEXT, Memory};
 use message_net::{Actor, Event, MailId};
 use std::alloc::Global;
 use text_pieces::{push, push_field, push_source};
@@ -27,7 +27,7 @@ fn push_title(out: &mut Vec<u8>) -> Result<(), Memory>
 /// Appends the head for this number of events.
 #[tactic(auto, unfolding(crate::specs::Document::head_text))]
 fn push_head(out: &mut Vec<u8>, shape: TraceShape, text: &[u8], count: u32) -> Result<(), Memory>
-    requires { length text.now ≤ 1048576 }
+    requires { length text.now ≤ MOST_OF_TEXT }
     ensures { OnOk result (out.new.items ≡ out.old.items ++ head_text (record { shape = shape; text = text.now; count = count })) }
 {
     push_title(out)?;
@@ -36,7 +36,7 @@ fn push_head(out: &mut Vec<u8>, shape: TraceShape, text: &[u8], count: u32) -> R
     push_field(out, b"events ", count, b"\n")
 }
 
-/// Adds the line of the handling of a mail.
+/// Adds the line of the handling of a message.
 #[tactic(auto, unfolding(crate::specs::Document::mail_line))]
 fn push_mail(out: &mut Vec<u8>, id: MailId) -> Result<(), Memory>
     ensures { OnOk result (out.new.items ≡ out.old.items ++ mail_line id.sender id.number) }

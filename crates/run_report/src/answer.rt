@@ -1,7 +1,7 @@
 ghost use Rattle.std.specs.Prelude.{◌≡◌, ◌+◌, ◌*◌, ◌++◌, ◌<◌, ◌≤◌, length, flat_map, IfOk, OnOk};
 ghost use Rattle.run_report.specs.Answer.{outcome_word, kind_word, end_text, outcome_line, task_line, words_line, word_line, word_lines, answer_of};
 
-use dn_base::{Memory, Outcome};
+use dn_base::{MOST_WORDS, Memory, Outcome};
 use region_table::FIRST_DATA_ADDRESS;
 use rv_core::{EndShown, Ending, TaskEnd, TrapKind};
 use std::alloc::Global;
@@ -108,7 +108,7 @@ pub(crate) fn push_count(out: &mut Vec<u8>, count: u32) -> Result<(), Memory>
 
 #[tactic(auto, unfolding(crate::specs::Answer::word_line))]
 fn push_word(out: &mut Vec<u8>, word: u32, value: u32) -> Result<(), Memory>
-    requires { word < 65536 }
+    requires { word < MOST_WORDS }
     ensures { OnOk result (out.new.items ≡ out.old.items ++ word_line word value) }
 {
     if value == 0 {
@@ -122,7 +122,7 @@ fn push_word(out: &mut Vec<u8>, word: u32, value: u32) -> Result<(), Memory>
 }
 
 fn push_words(out: &mut Vec<u8>, memory: &[u32]) -> Result<(), Memory>
-    requires { length memory.now ≤ 65536 }
+    requires { length memory.now ≤ MOST_WORDS }
     ensures { OnOk result (out.new.items ≡ out.old.items ++ word_lines 0 memory.now) }
 {
     let mut word = 0;
@@ -142,7 +142,7 @@ fn push_words(out: &mut Vec<u8>, memory: &[u32]) -> Result<(), Memory>
 /// `Memory` where there is no room for the text.
 #[tactic(auto, unfolding(crate::specs::Answer::answer_of))]
 pub fn answer_text(alloc: Global, ending: &Ending) -> Result<Vec<u8>, Memory>
-    requires words { length ending.now.memory ≤ 65536 }
+    requires words { length ending.now.memory ≤ MOST_WORDS }
     requires tasks { length ending.now.tasks ≤ 64 }
     ensures { IfOk result (λ text. text.items ≡ answer_of ending.now) }
 {

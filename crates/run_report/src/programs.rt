@@ -15,7 +15,7 @@ use region_table::Program;
 use rv_assembler::{SourceFault, assemble};
 use std::alloc::Global;
 
-/// Why a text or a document gives no result.
+/// Why a text or a trace gives no result.
 #[derive(Drop)]
 pub enum Stop {
     /// It is refused with this line.

@@ -10,7 +10,7 @@ use rv_assembler::SourceFault;
 use std::alloc::Global;
 use text_pieces::{push, push_decimal};
 
-/// Why command words or a text are refused.
+/// Why arguments or a text are refused.
 #[derive(Clone, Copy, PartialEq, Eq)]
 pub enum Refusal {
     /// The command doesn't take the words.
@@ -107,7 +107,7 @@ fn push_check(out: &mut Vec<u8>, fault: CheckFault) -> Result<(), Memory>
     }
 }
 
-/// The line that says why command words or a text are refused.
+/// The line that says why arguments or a text are refused.
 ///
 /// Out of memory is no refusal: the fault `SourceFault::Memory` must not be passed.
 ///

@@ -3,7 +3,7 @@ ghost use Rattle.run_report.specs.Run.{event_word, all_kinds, counted_line, kind
 
 use crate::answer::answer_text;
 use crate::grants::push_grants;
-use dn_base::{Grant, Memory};
+use dn_base::{Grant, MOST_WORDS, Memory};
 use grant_log::Counts;
 use message_net::EventKind;
 use rv_core::Ending;
@@ -113,7 +113,7 @@ pub fn report(
     grants: &[Grant],
     counts: &Counts,
 ) -> Result<Vec<u8>, Memory>
-    requires words { length ending.now.memory ≤ 65536 }
+    requires words { length ending.now.memory ≤ MOST_WORDS }
     requires tasks { length ending.now.tasks ≤ 64 }
     requires events { sum counts.now.kinds < 18446744073709551616 }
     ensures { IfOk result (λ text. text.items ≡ report_of ending.now grants.now counts.now) }

@@ -3,7 +3,7 @@ ghost use Rattle.region_table.specs.Program.{tasks_of};
 ghost use Rattle.run_report.specs.Summary.{count_line, sum_line, retired_by_all, summary_of, checked_of};
 
 use crate::answer::{push_count, push_outcome};
-use dn_base::Memory;
+use dn_base::{MOST_WORDS, Memory};
 use region_table::{Phase, Program};
 use rv_core::{Ending, TaskEnd};
 use std::alloc::Global;
@@ -19,7 +19,7 @@ fn retired(tasks: &[TaskEnd]) -> u64
 
 /// The sum of all words.
 fn word_sum(memory: &[u32]) -> u64
-    requires { length memory.now ≤ 65536 }
+    requires { length memory.now ≤ MOST_WORDS }
     ensures { result ≡ sum memory.now }
 {
     memory.iter().map(|value| u64::from(*value)).sum()
@@ -49,7 +49,7 @@ fn push_line(out: &mut Vec<u8>, word: &[u8], count: u64) -> Result<(), Memory>
 
 #[tactic(auto, unfolding(crate::specs::Summary::sum_line))]
 fn push_sum(out: &mut Vec<u8>, memory: &[u32]) -> Result<(), Memory>
-    requires { length memory.now ≤ 65536 }
+    requires { length memory.now ≤ MOST_WORDS }
     ensures { OnOk result (out.new.items ≡ out.old.items ++ sum_line memory.now) }
 {
     push(out, b"sum ")?;
@@ -66,7 +66,7 @@ fn push_sum(out: &mut Vec<u8>, memory: &[u32]) -> Result<(), Memory>
 /// `Memory` where there is no room for the text.
 #[tactic(auto, unfolding(crate::specs::Summary::summary_of))]
 pub fn summary(alloc: Global, ending: &Ending) -> Result<Vec<u8>, Memory>
-    requires words { length ending.now.memory ≤ 65536 }
+    requires words { length ending.now.memory ≤ MOST_WORDS }
     requires tasks { length ending.now.tasks ≤ 64 }
     ensures { IfOk result (λ text. text.items ≡ summary_of ending.now) }
 {

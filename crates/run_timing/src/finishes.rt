@@ -11,7 +11,7 @@ ghost use Rattle.run_timing.specs.Ticks.{AreWithinLimits};
 use crate::rows::Rows;
 use crate::running::timed_rows;
 use crate::ticks::Ticks;
-use dn_base::{Memory, Sequence, Shape};
+use dn_base::{MOST_EVENTS, Memory, Sequence, Shape};
 use dn_machine::{Machine, a_machine_is_kept};
 use effect_checker::Checked;
 use message_net::Event;
@@ -35,7 +35,7 @@ fn finishes_in(rows: Rows) -> Sequence<u64>
 /// Afterwards it is as the events leave it; `Machine::reset` sets it back.
 ///
 /// # Errors
-/// `Memory` if there is no room for the mails or for the notes of each event.
+/// `Memory` if there is no room for the messages or for the notes of each event.
 pub fn finish_events(
     alloc: Global,
     machine: &mut Machine,
@@ -45,7 +45,7 @@ pub fn finish_events(
     requires initial { machine.old.state ≡ initial_state machine.old.state.setting }
     requires made { machine.old.made ≡ 0 }
     requires run { IsRun machine.old.state events.now }
-    requires few { length events.now ≤ 25169664 }
+    requires few { length events.now ≤ MOST_EVENTS }
     requires ticks { AreWithinLimits ticks.now }
     ensures finishes { IfOk result (AreFinishes ticks.now machine.old.state events.now) }
     ensures leads { OnOk result (machine.new.state ≡ after machine.old.state events.now) }
@@ -56,9 +56,9 @@ pub fn finish_events(
 }
 
 /// When each event of a run finishes, in ticks from the run's start: its own ticks after the later of the event before it of its
-/// actor and the event that sent the mail which it handles. It is when the longest chain that ends with the event does.
+/// actor and the event that sent the message which it handles. It is when the longest chain that ends with the event does.
 ///
-/// The premises are those of `time_run`. Besides the events, it takes 13 bytes for each event, and 4 for each mail that they
+/// The premises are those of `time_run`. Besides the events, it takes 13 bytes for each event, and 4 for each message that they
 /// handle; afterwards 8 for each event.
 ///
 /// # Errors
@@ -73,7 +73,7 @@ pub fn finish_run(
 ) -> Result<Sequence<u64>, Memory>
     requires fits { FitsMachine checked shape fuel }
     requires run { IsRunOn checked shape fuel events.now }
-    requires few { length events.now ≤ 25169664 }
+    requires few { length events.now ≤ MOST_EVENTS }
     requires ticks { AreWithinLimits ticks.now }
     ensures { IfOk result (AreFinishesOf checked shape fuel events.now ticks.now) }
 {

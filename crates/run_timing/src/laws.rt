@@ -1,5 +1,4 @@
-//! What holds of every timing, for proofs about them.
-//! A law is a function without effect; its contract states the theorem.
+//! What holds of every timing, for proofs about them. A theorem is a function without effect; its contract states the theorem.
 ghost use Rattle.std.specs.Prelude.{◌≡◌, ℕ, List};
 ghost use Rattle.dn_base.specs.declared.ids.Shape.{Shape};
 ghost use Rattle.message_net.specs.declared.event.Event.{Event};

@@ -16,10 +16,10 @@ pub(crate) struct Happened {
     pub(crate) kind: EventKind,
 }
 
-/// Makes an event, which may come.
+/// Makes an event, which is enabled.
 ///
 /// # Errors
-/// `Memory` where there is no room for the mails.
+/// `Memory` where there is no room for the messages.
 pub(crate) fn make(machine: &mut Machine, event: Event) -> Result<Happened, Memory>
     requires may { enabled machine.old.state event ≡ true }
     requires made { machine.old.made < 4000000000 }
@@ -37,7 +37,7 @@ pub(crate) fn make(machine: &mut Machine, event: Event) -> Result<Happened, Memo
     }
 }
 
-/// How many mails the actor at an index has sent that aren't noted yet.
+/// How many messages the actor at an index has sent that aren't noted yet.
 pub(crate) fn sent_since(machine: &Machine, tracks: &Tracks, actor: Actor, place: usize) -> u32
     requires there { has_actor machine.now.state.setting.shape.cores machine.now.state.setting.shape.banks actor ≡ true }
     requires grows { length (senders_at tracks.now.senders.items place) ≤ next_number machine.now.state actor }

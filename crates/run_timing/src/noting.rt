@@ -7,11 +7,11 @@ use crate::making::Happened;
 use crate::rows::Rows;
 use crate::ticks::Ticks;
 use crate::tracks::Tracks;
-use dn_base::{Memory, Shape};
+use dn_base::{MOST_EVENTS, Memory, Shape};
 use message_net::Event;
 
 impl Tracks {
-    /// The event that sent the mail that an event handles; None if it handles none.
+    /// The event that sent the message that an event handles; None if it handles none.
     pub(crate) fn sender_of(&self, event: Event, shape: Shape) -> Option<u32>
         ensures { result ≡ sender_in shape.cores shape.banks self.now.senders.items event }
     {
@@ -21,7 +21,7 @@ impl Tracks {
         }
     }
 
-    /// Of the event before an event of the actor at an index and the sender of its mail, the one that finishes later.
+    /// Of the event before an event of the actor at an index and the sender of its message, the one that finishes later.
     pub(crate) fn before(
         &self,
         rows: &Rows,
@@ -49,7 +49,7 @@ pub(crate) fn note_row(
     ticks: &Ticks,
 ) -> Result<(), Memory>
     requires before { (p : ℕ) → before ≡ Some p → p < length rows.old.finishes }
-    requires few { length rows.old.finishes ≤ 25169664 }
+    requires few { length rows.old.finishes ≤ MOST_EVENTS }
     requires small { (i : ℕ) → i < length rows.old.finishes → finish_in rows.old i ≤ 25169664000000 }
     requires ticks { AreWithinLimits ticks.now }
     ensures { OnOk result (rows.new ≡ with_timing_row happened.kind (ticks_of ticks.now happened.kind) before rows.old) }

@@ -14,8 +14,8 @@ fn raise(counts: &mut [u32], place: usize)
     }
 }
 
-/// How many mails of each actor the events handle, by the index of the actor. In a complete run these are all mails that the
-/// actor sends, so rows with that much room don't grow.
+/// How many messages of each actor the events handle, by the index of the actor. In a complete run these are all messages that
+/// the actor sends, so rows with that much room don't grow.
 ///
 /// # Errors
 /// `Memory` where there is no room.
@@ -38,7 +38,7 @@ fn handled_mails(
 }
 
 impl Tracks {
-    /// Empty notes for this many actors, with room for the mails that the events handle.
+    /// Empty notes for this many actors, with room for the messages that the events handle.
     ///
     /// # Errors
     /// `Memory` where there is no room.

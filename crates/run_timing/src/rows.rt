@@ -2,7 +2,7 @@ ghost use Rattle.std.specs.Prelude.{◌≡◌, ◌+◌, ◌<◌, ◌≤◌, ℕ,
 ghost use Rattle.run_timing.specs.Rows.{IsLatest, behind, finish_in, later, with_timing_row};
 
 use crate::befores::Befores;
-use dn_base::{Memory, Sequence};
+use dn_base::{MOST_EVENTS, Memory, Sequence};
 use message_net::EventKind;
 use std::alloc::Global;
 
@@ -72,7 +72,7 @@ impl Rows {
         before: Option<u32>,
     ) -> Result<(), Memory>
         requires before { (i : ℕ) → before ≡ Some i → i < length self.old.finishes }
-        requires few { length self.old.finishes ≤ 25169664 }
+        requires few { length self.old.finishes ≤ MOST_EVENTS }
         requires fits { behind (finish_in self.old) before + ticks < 18446744073709551616 }
         ensures { OnOk result (self.new ≡ with_timing_row kind ticks before self.old) }
     {
@@ -84,7 +84,7 @@ impl Rows {
 
     /// The event that finishes last, the first of them if there are several; None if there is no event.
     pub(crate) fn latest(&self) -> Option<u32>
-        requires few { length self.now.finishes ≤ 25169664 }
+        requires few { length self.now.finishes ≤ MOST_EVENTS }
         requires some { (i : ℕ) → i < length self.now.finishes → 1 ≤ finish_in self.now i }
         ensures { IsLatest (length self.now.finishes) (finish_in self.now) result }
     {

@@ -9,7 +9,7 @@ use crate::noting::note_row;
 use crate::rows::Rows;
 use crate::ticks::Ticks;
 use crate::tracks::Tracks;
-use dn_base::{Memory, Shape};
+use dn_base::{MOST_EVENTS, Memory, Shape};
 use dn_machine::{Machine, a_machine_is_kept};
 use message_net::Event;
 use std::alloc::Global;
@@ -30,7 +30,7 @@ fn note_run(
     requires made { machine.old.made ≡ 0 }
     requires shape { machine.old.state.setting.shape ≡ shape }
     requires run { IsRun machine.old.state events.now }
-    requires few { length events.now ≤ 25169664 }
+    requires few { length events.now ≤ MOST_EVENTS }
     requires ticks { AreWithinLimits ticks.now }
     requires rows { rows.old ≡ record { finishes = []; befores = []; kinds = [] } }
     requires last { tracks.old.last ≡ replicate (shape.cores + shape.banks + 1) None }
@@ -53,11 +53,11 @@ fn note_run(
     Ok(())
 }
 
-/// The rows of a run's events, which the initial machine makes one by one. They take 13 bytes for each event, and while they
-/// are made 4 more for each mail. A complete run has no more mails than events. The room for a whole run is allocated at once.
+/// The rows of a run's events, which the initial machine makes one by one. They take 13 bytes for each event, and while they are
+/// made 4 more for each message. A complete run has no more messages than events. The room for a whole run is allocated at once.
 ///
 /// # Errors
-/// `Memory` where there is no room for the rows or the mails.
+/// `Memory` where there is no room for the rows or the messages.
 pub(crate) fn timed_rows(
     alloc: Global,
     machine: &mut Machine,
@@ -69,7 +69,7 @@ pub(crate) fn timed_rows(
     requires made { machine.old.made ≡ 0 }
     requires shape { machine.old.state.setting.shape ≡ shape }
     requires run { IsRun machine.old.state events.now }
-    requires few { length events.now ≤ 25169664 }
+    requires few { length events.now ≤ MOST_EVENTS }
     requires ticks { AreWithinLimits ticks.now }
     ensures rows { IfOk result (AreRowsOf ticks.now machine.old.state events.now) }
     ensures leads { OnOk result (machine.new.state ≡ after machine.old.state events.now) }

@@ -10,7 +10,7 @@ use crate::running::timed_rows;
 use crate::ticks::Ticks;
 use crate::timing::Timing;
 use crate::way::way_to;
-use dn_base::{Memory, Shape};
+use dn_base::{MOST_EVENTS, Memory, Shape};
 use dn_machine::{Machine, a_machine_is_kept};
 use effect_checker::Checked;
 use message_net::Event;
@@ -20,7 +20,7 @@ use std::alloc::Global;
 /// used again. No event may have come on the machine. Afterwards it is as the events leave it; `Machine::reset` sets it back.
 ///
 /// # Errors
-/// `Memory` if there is no room for the mails, for the notes of each event, or for the links.
+/// `Memory` if there is no room for the messages, for the notes of each event, or for the links.
 pub fn time_events(
     alloc: Global,
     machine: &mut Machine,
@@ -30,7 +30,7 @@ pub fn time_events(
     requires initial { machine.old.state ≡ initial_state machine.old.state.setting }
     requires made { machine.old.made ≡ 0 }
     requires run { IsRun machine.old.state events.now }
-    requires few { length events.now ≤ 25169664 }
+    requires few { length events.now ≤ MOST_EVENTS }
     requires ticks { AreWithinLimits ticks.now }
     ensures timing { IfOk result (IsLongest ticks.now machine.old.state events.now) }
     ensures leads { OnOk result (machine.new.state ≡ after machine.old.state events.now) }
@@ -44,7 +44,7 @@ pub fn time_events(
 }
 
 /// How long a run takes, and its longest chain of events, in which each depends on the one before it. An event depends on the
-/// previous event of its own actor, and on the event that sent the mail which it handles.
+/// previous event of its own actor, and on the event that sent the message which it handles.
 ///
 /// The events must be a run of the initial machine of the checked program, this shape and this fuel, and at most 25,169,664.
 /// The shape must have as many cores as the program needs, 1 to 16 banks, 1 to 256 sets and 1 to 16 ways. A task may retire
@@ -53,10 +53,10 @@ pub fn time_events(
 /// Of the longest chains, the links are one that ends with the least event. If the two events on which a link depends finish at
 /// the same time, the link before it is that of its own actor.
 ///
-/// Besides the events, it takes 13 bytes for each event, and 4 for each mail that they handle, while they are timed; then 5
+/// Besides the events, it takes 13 bytes for each event, and 4 for each message that they handle, while they are timed; then 5
 /// bytes for each event, and 16 for each link. So it takes at most 21 bytes an event, including the links that are handed back,
-/// and an amount that doesn't grow with the run: the machine, and some bytes for each actor. A run that isn't complete may
-/// leave mails in flight. If an actor sent more mails than were handled, the notes of its mails double as they grow.
+/// and an amount that doesn't grow with the run: the machine, and some bytes for each actor. A run that isn't complete may leave
+/// messages in flight. If an actor sent more messages than were handled, the notes of its messages double as they grow.
 ///
 /// # Errors
 /// `Memory` if there is no room for the machine, for the notes of each event, or for the links.
@@ -70,7 +70,7 @@ pub fn time_run(
 ) -> Result<Timing, Memory>
     requires fits { FitsMachine checked shape fuel }
     requires run { IsRunOn checked shape fuel events.now }
-    requires few { length events.now ≤ 25169664 }
+    requires few { length events.now ≤ MOST_EVENTS }
     requires ticks { AreWithinLimits ticks.now }
     ensures { IfOk result (IsTimingOf checked shape fuel events.now ticks.now) }
 {

@@ -4,15 +4,15 @@ ghost use Rattle.run_timing.specs.Tracks.{last_at, noted_last, noted_senders, se
 use dn_base::{Memory, Sequence};
 use std::alloc::Global;
 
-/// Notes of the events so far: for each actor, by its index, its last event; and for each of its mails, by the mail's number,
-/// the event that sent it.
+/// Notes of the events so far: for each actor, by its index, its last event; and for each of its messages, by the message's
+/// number, the event that sent it.
 #[derive(Drop)]
 pub(crate) struct Tracks {
     pub(crate) last: Sequence<Option<u32>>,
     pub(crate) senders: Vec<Sequence<u32>>,
 }
 
-/// A row without mails for each actor, with room for this many.
+/// A row without messages for each actor, with room for this many.
 fn empty_rows(alloc: Global, mails: &[u32]) -> Result<Vec<Sequence<u32>>, Memory>
     ensures { IfOk result (λ rows. rows.items ≡ replicate (length mails.now) []) }
 {
@@ -24,7 +24,7 @@ fn empty_rows(alloc: Global, mails: &[u32]) -> Result<Vec<Sequence<u32>>, Memory
     Ok(rows)
 }
 
-/// Appends the mails that an event sent.
+/// Appends the messages that an event sent.
 fn push_mails(row: &mut Sequence<u32>, count: u32, event: u32) -> Result<(), Memory>
     ensures { OnOk result (row.new ≡ row.old ++ replicate count event) }
 {
@@ -49,7 +49,7 @@ fn push_at(
 }
 
 impl Tracks {
-    /// Empty notes, with room for this many mails of each actor.
+    /// Empty notes, with room for this many messages of each actor.
     ///
     /// # Errors
     /// `Memory` where there is no room.
@@ -71,7 +71,7 @@ impl Tracks {
         self.last.as_slice()[place]
     }
 
-    /// The event that sent the mail with this number of the actor at a place.
+    /// The event that sent the message with this number of the actor at a place.
     pub(crate) fn sender(&self, place: usize, number: u32) -> Option<u32>
         ensures { result ≡ slice_get (senders_at self.now.senders.items place) number }
     {
@@ -81,7 +81,7 @@ impl Tracks {
         }
     }
 
-    /// Notes an event of the actor at an index, and that it sent this many mails.
+    /// Notes an event of the actor at an index, and that it sent this many messages.
     ///
     /// # Errors
     /// `Memory` where there is no room.

@@ -8,7 +8,7 @@ use Rattle.rv_assembler.specs.declared.draft.Start.{Start}
 use Rattle.rv_assembler.specs.Operand.{bytes_of}
 use Rattle.rv_assembler.specs.declared.statement.Statement.{Statement}
 use Rattle.rv_assembler.specs.declared.statement.Statement as statement
-use Rattle.rv_assembler.specs.declared.reading.Saying.{Saying}
+use Rattle.rv_assembler.specs.declared.parsing.Saying.{Saying}
 use Rattle.rv_assembler.specs.declared.names.Meaning.{Meaning}
 use Rattle.rv_assembler.specs.Number.{natural_of, wrapped, is_length}
 use Rattle.rv_assembler.specs.Gathering.{more}

@@ -21,18 +21,17 @@ use Rattle.rv_assembler.specs.declared.kind.Piece.{Piece}
 use Rattle.rv_assembler.specs.declared.kind.Piece as piece
 use Rattle.rv_assembler.specs.declared.kind.Kind.{Kind}
 use Rattle.rv_assembler.specs.declared.kind.Kind as kind
-use Rattle.rv_assembler.specs.declared.kind.Directive.{Directive}
 use Rattle.rv_assembler.specs.declared.kind.Directive as directive
 use Rattle.rv_assembler.specs.declared.statement.Statement.{Statement}
 use Rattle.rv_assembler.specs.declared.statement.Statement as statement
-use Rattle.rv_assembler.specs.declared.reading.Reading.{Reading}
-use Rattle.rv_assembler.specs.declared.reading.Reading.TheVariants.{Bad, Good}
+use Rattle.rv_assembler.specs.declared.parsing.Reading.{Reading}
+use Rattle.rv_assembler.specs.declared.parsing.Reading.TheVariants.{Bad, Good}
 use Rattle.rv_assembler.specs.declared.names.Meaning.{Meaning}
 use Rattle.rv_assembler.specs.declared.draft.Draft.{Draft}
 use Rattle.rv_assembler.specs.Names.{is_declared_name, AreDeclaredNames}
 use Rattle.rv_assembler.specs.Operand.{bytes_of, token_at}
 use Rattle.rv_assembler.specs.Shape as shape
-use Rattle.rv_assembler.specs.Shape.{Shape, memory_rows, operation_rows, short_rows, directive_rows, later_rows, is_colon, is_plain, piece_fits, fits, shape_has_word, is_row, kind_in_rows, knows_word, kind_for}
+use Rattle.rv_assembler.specs.Shape.{Shape, memory_rows, operation_rows, short_rows, directive_rows, later_rows, is_colon, is_plain, fits, shape_has_word, is_row, kind_in_rows, knows_word, kind_for}
 use Rattle.rv_assembler.specs.Reading.{statement_for, statement_of, statement_in, said, labelled, read_tokens, read_line, reading_of, version_line}
 use Rattle.rv_assembler.specs.Adding.{no_draft, draft_after, fault_on_line, unless_fault, total, program_in, draft_of}
 use Rattle.rv_assembler.specs.Finishing.{finished_program}

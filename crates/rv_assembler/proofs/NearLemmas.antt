@@ -7,7 +7,7 @@ use Rattle.src_text.specs.declared.token.TokenKind.{TokenKind}
 use Rattle.src_text.specs.declared.token.TokenKind as token
 use Rattle.rv_assembler.specs.declared.statement.Statement.{Statement}
 use Rattle.rv_assembler.specs.declared.statement.Statement as statement
-use Rattle.rv_assembler.specs.declared.reading.Saying.{Saying}
+use Rattle.rv_assembler.specs.declared.parsing.Saying.{Saying}
 use Rattle.rv_assembler.specs.declared.names.Meaning.{Meaning}
 use Rattle.rv_assembler.specs.declared.names.Meaning as meaning
 use Rattle.rv_assembler.specs.Number.{natural_of, wrapped, is_within}

@@ -11,9 +11,9 @@ use Rattle.src_text.specs.declared.token.Token.{Token}
 use Rattle.rv_assembler.specs.declared.fault.SourceFault.{SourceFault}
 use Rattle.rv_assembler.specs.declared.fault.SourceFault as fault
 use Rattle.rv_assembler.specs.declared.statement.Statement.{Statement}
-use Rattle.rv_assembler.specs.declared.reading.Saying.{Saying}
-use Rattle.rv_assembler.specs.declared.reading.Reading.{Reading}
-use Rattle.rv_assembler.specs.declared.reading.Reading.TheVariants.{Bad, Good}
+use Rattle.rv_assembler.specs.declared.parsing.Saying.{Saying}
+use Rattle.rv_assembler.specs.declared.parsing.Reading.{Reading}
+use Rattle.rv_assembler.specs.declared.parsing.Reading.TheVariants.{Bad, Good}
 use Rattle.rv_assembler.specs.Shape.{is_name, is_colon, is_plain}
 use Rattle.rv_assembler.specs.Reading.{statement_in, said, labelled, read_tokens, read_line, reading_of, version_line}
 use Rattle.rv_assembler.specs.Source.{sayings}

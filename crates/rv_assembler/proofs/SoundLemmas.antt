@@ -11,7 +11,7 @@ use Rattle.region_table.specs.declared.declared.Region.{Region}
 use Rattle.region_table.specs.Program.{AreTiled}
 use Rattle.rv_assembler.specs.declared.statement.Statement.{Statement}
 use Rattle.rv_assembler.specs.declared.statement.Statement as statement
-use Rattle.rv_assembler.specs.declared.reading.Saying.{Saying}
+use Rattle.rv_assembler.specs.declared.parsing.Saying.{Saying}
 use Rattle.rv_assembler.specs.declared.names.Meaning.{Meaning}
 use Rattle.rv_assembler.specs.declared.names.Meaning as meaning
 use Rattle.rv_assembler.specs.declared.draft.FirstValue.{FirstValue}

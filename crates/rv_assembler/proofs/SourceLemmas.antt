@@ -2,8 +2,8 @@
 use Rattle.std.proofs.Common.{◌≡◌, ℕ, Bool, ◌+◌, ◌<◌, List, ◌∷◌, length, map, drop, get_or, sym, Option, Some, None, Result, Ok, Err, nat_lt, refl, ap, ◌∙◌}
 use Rattle.std.proofs.lemmas.List.{drop_more}
 use Rattle.rv_assembler.specs.declared.fault.SourceFault.{SourceFault}
-use Rattle.rv_assembler.specs.declared.reading.Reading.{Reading}
-use Rattle.rv_assembler.specs.declared.reading.Reading.TheVariants.{Bad, Good}
+use Rattle.rv_assembler.specs.declared.parsing.Reading.{Reading}
+use Rattle.rv_assembler.specs.declared.parsing.Reading.TheVariants.{Bad, Good}
 use Rattle.rv_assembler.specs.declared.names.Meaning.{Meaning}
 use Rattle.rv_assembler.specs.declared.draft.Draft.{Draft}
 use Rattle.src_text.specs.declared.line.Line.{Line}

@@ -9,7 +9,7 @@ use Rattle.rv_assembler.specs.declared.statement.Code.{Code}
 use Rattle.rv_assembler.specs.declared.statement.Code.TheVariants.{LoadNumber, LoadAddress}
 use Rattle.rv_assembler.specs.declared.statement.Statement.{Statement}
 use Rattle.rv_assembler.specs.declared.statement.Statement as statement
-use Rattle.rv_assembler.specs.declared.reading.Saying.{Saying}
+use Rattle.rv_assembler.specs.declared.parsing.Saying.{Saying}
 use Rattle.rv_assembler.specs.declared.draft.Cores.{Cores}
 use Rattle.rv_assembler.specs.Number.{natural_of, is_length}
 use Rattle.rv_assembler.specs.Size.{code_word_count}

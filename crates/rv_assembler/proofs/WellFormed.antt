@@ -7,9 +7,9 @@ use Rattle.region_table.specs.Program.{ProgramParts, IsProgram}
 use Rattle.src_text.specs.Line.{lines_of}
 use Rattle.rv_assembler.specs.declared.fault.SourceFault.{SourceFault}
 use Rattle.rv_assembler.specs.declared.fault.SourceFault as fault
-use Rattle.rv_assembler.specs.declared.reading.Saying.{Saying}
-use Rattle.rv_assembler.specs.declared.reading.Reading.{Reading}
-use Rattle.rv_assembler.specs.declared.reading.Reading.TheVariants.{Bad, Good}
+use Rattle.rv_assembler.specs.declared.parsing.Saying.{Saying}
+use Rattle.rv_assembler.specs.declared.parsing.Reading.{Reading}
+use Rattle.rv_assembler.specs.declared.parsing.Reading.TheVariants.{Bad, Good}
 use Rattle.rv_assembler.specs.declared.names.Meaning.{Meaning}
 use Rattle.rv_assembler.specs.declared.draft.Draft.{Draft}
 use Rattle.rv_assembler.specs.Reading.{version_line, reading_of}

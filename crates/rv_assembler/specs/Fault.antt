@@ -14,7 +14,7 @@ use Rattle.rv_assembler.specs.declared.statement.Family.{Family}
 use Rattle.rv_assembler.specs.declared.statement.Effect.{Effect}
 use Rattle.rv_assembler.specs.declared.statement.Extent.{Extent}
 use Rattle.rv_assembler.specs.declared.statement.Extent as extent
-use Rattle.rv_assembler.specs.declared.reading.Saying.{Saying}
+use Rattle.rv_assembler.specs.declared.parsing.Saying.{Saying}
 use Rattle.rv_assembler.specs.declared.names.Meaning.{Meaning}
 use Rattle.rv_assembler.specs.declared.emission.Emission.{Emission}
 use Rattle.rv_assembler.specs.declared.emission.Emission.TheVariants.{OutOfRange, Unknown}

@@ -1,6 +1,6 @@
 -- The meaning of a source text: a program, or the text's first fault. Begin here. Then read Reading (what a line says by
 -- itself, with Shape, Operand and Number), Declarations (names), Tables (what lines declare, with Counts, Named, Emission and
--- Rows), Fault, and Program. The types stand in the code: what a line says (`Saying`, `Reading`) in src/reading.rt, statements
+-- Rows), Fault, and Program. The types stand in the code: what a line says (`Saying`, `Reading`) in src/parsing.rt, statements
 -- in src/statement.rt, what names mean in src/names.rt, the tables and their rows (`Draft`; `Start`, a task; `Claim`, words
 -- that a task uses; `FirstValue`; `Cores`, those of the current tasks) in src/draft.rt, and faults in src/fault.rt.
 use Rattle.std.specs.Prelude.{ℕ, Bool, nat_lt, List, [], ◌∷◌, ◌++◌, length, map, filter_map, Option, Some, None, Result, Ok, Err, if◌then◌else◌}
@@ -9,9 +9,9 @@ use Rattle.region_table.specs.Program.{ProgramParts}
 use Rattle.src_text.specs.Line.{lines_of}
 use Rattle.rv_assembler.specs.declared.fault.SourceFault.{SourceFault}
 use Rattle.rv_assembler.specs.declared.fault.SourceFault as fault
-use Rattle.rv_assembler.specs.declared.reading.Saying.{Saying}
-use Rattle.rv_assembler.specs.declared.reading.Reading.{Reading}
-use Rattle.rv_assembler.specs.declared.reading.Reading.TheVariants.{Bad, Good}
+use Rattle.rv_assembler.specs.declared.parsing.Saying.{Saying}
+use Rattle.rv_assembler.specs.declared.parsing.Reading.{Reading}
+use Rattle.rv_assembler.specs.declared.parsing.Reading.TheVariants.{Bad, Good}
 use Rattle.rv_assembler.specs.declared.names.Meaning.{Meaning}
 use Rattle.rv_assembler.specs.Reading.{version_line, reading_of}
 use Rattle.rv_assembler.specs.Placed.{Placed, placed}

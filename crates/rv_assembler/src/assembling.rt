@@ -13,7 +13,7 @@ use crate::emission::emission_at;
 use crate::fault::SourceFault;
 use crate::finishing::finish;
 use crate::names::{Names, survey};
-use crate::reading::{Reading, read_lines, version_line};
+use crate::parsing::{Reading, read_lines, version_line};
 use crate::testing::{early_fault, over_limit};
 use dn_base::MOST_OF_TEXT;
 use region_table::Program;
@@ -67,7 +67,7 @@ fn add_lines<'a>(
 
 /// Adds the lines of a text to an empty draft, up to the first with a fault.
 fn add_text(alloc: Global, text: &[u8], draft: &mut Draft) -> Result<(), SourceFault>
-    requires text { length text.now ≤ 1048576 }
+    requires text { length text.now ≤ MOST_OF_TEXT }
     requires empty { draft.old ≡ no_draft }
     ensures ok { OnOk result (draft_of text.now ≡ Ok draft.new) }
     ensures err { IfErr result (λ f. f ≢ NoMemory → draft_of text.now ≡ Err f) }
@@ -83,7 +83,7 @@ fn add_text(alloc: Global, text: &[u8], draft: &mut Draft) -> Result<(), SourceF
 
 /// The program of a text that isn't too large, or the text's first fault.
 fn small_program(alloc: Global, text: &[u8]) -> Result<Program, SourceFault>
-    requires { length text.now ≤ 1048576 }
+    requires { length text.now ≤ MOST_OF_TEXT }
     ensures ok { IfOk result (λ program. program_in (draft_of text.now) ≡ Ok program) }
     ensures err { IfErr result (λ f. f ≢ NoMemory → program_in (draft_of text.now) ≡ Err f) }
 {
@@ -96,7 +96,7 @@ fn small_program(alloc: Global, text: &[u8]) -> Result<Program, SourceFault>
 fn program_by_lines(alloc: Global, text: &[u8]) -> Result<Program, SourceFault>
     ensures ok { IfOk result (λ program. added_program text.now ≡ Ok program) }
     ensures err { IfErr result (λ f. f ≢ NoMemory → added_program text.now ≡ Err f) }
-    ensures large { 1048576 < length text.now → result ≡ Err TooLarge }
+    ensures large { MOST_OF_TEXT < length text.now → result ≡ Err TooLarge }
 {
     if MOST_OF_TEXT < text.len() {
         return Err(SourceFault::TooLarge);
@@ -118,7 +118,7 @@ fn program_by_lines(alloc: Global, text: &[u8]) -> Result<Program, SourceFault>
 pub fn assemble(alloc: Global, text: &[u8]) -> Result<Program, SourceFault>
     ensures ok { IfOk result (λ program. source text.now ≡ Ok program) }
     ensures err { IfErr result (λ f. f ≢ NoMemory → source text.now ≡ Err f) }
-    ensures large { 1048576 < length text.now → result ≡ Err TooLarge }
+    ensures large { MOST_OF_TEXT < length text.now → result ≡ Err TooLarge }
 {
     program_by_lines(alloc, text)
 }

@@ -10,7 +10,7 @@ ghost use Rattle.rv_assembler.specs.ClaimRows.{AreRowsWithin, words_by_rows, gua
 use crate::claim_rows::{claim_rows, intervals_of};
 use crate::draft::{Claim, Draft, FirstValue, Start, Usage};
 use crate::uniting::words_in;
-use dn_base::{CoreId, Memory, Sequence};
+use dn_base::{CoreId, MOST_WORDS, Memory, Sequence};
 use region_table::{Effects, Interval, Phase, Program, TaskDecl, WordSet};
 use std::alloc::Global;
 
@@ -43,7 +43,7 @@ fn words_of(
     task: Start,
     usage: Usage,
 ) -> Result<WordSet, Memory>
-    requires words { words ≤ 65536 }
+    requires words { words ≤ MOST_WORDS }
     requires rows { AreRowsWithin words rows.now }
     ensures { IfOk result (λ set. set ≡ words_by_rows rows.now task usage) }
 {
@@ -59,7 +59,7 @@ fn guarded_words(
     task: Start,
     writes: bool,
 ) -> Result<Sequence<WordSet>, Memory>
-    requires words { words ≤ 65536 }
+    requires words { words ≤ MOST_WORDS }
     requires rows { AreRowsWithin words rows.now }
     ensures { IfOk result (λ sets. sets ≡ map (guarded_by_rows rows.now task writes) (range_with_len 0 locks)) }
 {
@@ -78,7 +78,7 @@ fn effects_in(
     rows: &[Sequence<Interval>],
     task: Start,
 ) -> Result<Effects, Memory>
-    requires words { words ≤ 65536 }
+    requires words { words ≤ MOST_WORDS }
     requires rows { AreRowsWithin words rows.now }
     ensures { IfOk result (λ effects. effects ≡ effects_by_rows locks rows.now task) }
 {
@@ -97,7 +97,7 @@ fn declared(
     rows: &[Sequence<Interval>],
     task: Start,
 ) -> Result<TaskDecl, Memory>
-    requires words { words ≤ 65536 }
+    requires words { words ≤ MOST_WORDS }
     requires rows { AreRowsWithin words rows.now }
     ensures { IfOk result (λ declared. declared ≡ task_by_rows locks rows.now task) }
 {
@@ -135,7 +135,7 @@ fn push_task(
     rows: &[Sequence<Interval>],
     task: Option<Start>,
 ) -> Result<(), Memory>
-    requires words { words ≤ 65536 }
+    requires words { words ≤ MOST_WORDS }
     requires rows { AreRowsWithin words rows.now }
     ensures { OnOk result (tasks.new ≡ tasks.old ++ option_to_list (option_map (task_by_rows locks rows.now) task)) }
 {
@@ -154,7 +154,7 @@ fn phase_of(
     tasks: &[Start],
     number: u32,
 ) -> Result<Phase, Memory>
-    requires words { words ≤ 65536 }
+    requires words { words ≤ MOST_WORDS }
     requires rows { AreRowsWithin words rows.now }
     ensures { IfOk result (λ phase. phase ≡ phase_by_rows locks rows.now tasks.now number) }
 {
@@ -181,7 +181,7 @@ fn phases_by(
     tasks: &[Start],
     count: u32,
 ) -> Result<Sequence<Phase>, Memory>
-    requires words { words ≤ 65536 }
+    requires words { words ≤ MOST_WORDS }
     requires rows { AreRowsWithin words rows.now }
     requires count { count ≤ 64 }
     ensures { IfOk result (λ phases. phases ≡ map (phase_by_rows locks rows.now tasks.now) (range_with_len 1 count)) }
@@ -202,7 +202,7 @@ fn phases_of(
     tasks: &[Start],
     count: u32,
 ) -> Result<Sequence<Phase>, Memory>
-    requires words { words ≤ 65536 }
+    requires words { words ≤ MOST_WORDS }
     requires locks { locks ≤ 32 }
     requires count { count ≤ 64 }
     ensures { IfOk result (λ phases. phases ≡ map (phase_within words locks claims.now tasks.now) (range_with_len 1 count)) }
@@ -220,7 +220,7 @@ struct Made {
 
 /// The first memory and the phases of a draft.
 fn make_tables(alloc: Global, draft: &Draft) -> Result<Made, Memory>
-    requires words { draft.now.count.words ≤ 65536 }
+    requires words { draft.now.count.words ≤ MOST_WORDS }
     requires phases { draft.now.phases ≤ 64 }
     requires locks { length draft.now.locks ≤ 32 }
     ensures memory { IfOk result (λ made. made.memory.items ≡ (finished_program draft.now).memory) }
@@ -269,7 +269,7 @@ fn joined(draft: Draft, made: Made) -> Program
 
 /// The program that the lines of a text add up to.
 pub(crate) fn finish(alloc: Global, draft: Draft) -> Result<Program, Memory>
-    requires words { draft.count.words ≤ 65536 }
+    requires words { draft.count.words ≤ MOST_WORDS }
     requires phases { draft.phases ≤ 64 }
     requires locks { length draft.locks ≤ 32 }
     requires program { IsProgram (finished_program draft) }

@@ -1,4 +1,4 @@
-//! Laws that compare statements of the source language with one another. A law is a function without effect; its contract
+//! Theorems that compare statements of the source language with one another. A theorem is a function without effect; its contract
 //! states the theorem.
 ghost use Rattle.std.specs.Prelude.{◌≡◌, ◌%◌, ◌^◌, ◌<◌, ℕ, ℤ, pos, List, Option, Some};
 ghost use Rattle.std.specs.List.{All};

@@ -1,4 +1,4 @@
-//! Laws: what holds of the meaning of every text. A law is a function without effect; its contract states the theorem.
+//! Theorems: what holds of the meaning of every text. A theorem is a function without effect; its contract states the theorem.
 ghost use Rattle.std.specs.Prelude.{◌≡◌, ◌<◌, ◌≤◌, ℕ, List, length, Ok, Err};
 ghost use Rattle.std.specs.List.{All};
 ghost use Rattle.rv_assembler.specs.declared.fault.SourceFault.TheVariants.{TooLarge};
@@ -11,9 +11,11 @@ ghost use Rattle.rv_assembler.specs.Counts.{code_words, data_words, HasFewBefore
 ghost use Rattle.rv_assembler.specs.Placed.{placed};
 ghost use Rattle.rv_assembler.specs.Union.{united};
 
+use dn_base::MOST_OF_TEXT;
+
 /// `TooLarge` is only a fault of texts of more than 1,048,576 bytes: no line has it.
 pub fn only_long_texts_are_too_large()
-    ensures { (text : List ℕ) → source text ≡ Err TooLarge → 1048576 < length text }
+    ensures { (text : List ℕ) → source text ≡ Err TooLarge → MOST_OF_TEXT < length text }
 {}
 
 /// The names of a text's program are names that a text may declare.

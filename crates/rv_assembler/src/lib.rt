@@ -15,7 +15,7 @@ mod laws;
 mod names;
 mod number;
 mod operand;
-mod reading;
+mod parsing;
 mod shape;
 mod statement;
 mod testing;
@@ -33,5 +33,5 @@ pub use laws::{
     a_union_has_all_words, lines_of_good_form_are_few, names_may_be_declared,
     only_long_texts_are_too_large, programs_are_well_formed, what_stands_before_a_line_has_32_bits,
 };
-pub use reading::{Reading, Saying, read_line, version_line};
+pub use parsing::{Reading, Saying, read_line, version_line};
 pub use statement::{Code, Effect, Extent, Family, Statement};

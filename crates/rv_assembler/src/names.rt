@@ -11,7 +11,7 @@ ghost use Rattle.rv_assembler.specs.Gathering.{no_count, count_behind, count_aft
 
 use crate::number::{is_length, more, wrapped};
 use crate::operand::bytes;
-use crate::reading::{Reading, Saying};
+use crate::parsing::{Reading, Saying};
 use crate::statement::{Code, Statement};
 use dn_base::{Memory, Sequence};
 use src_text::Token;
@@ -46,7 +46,7 @@ pub(crate) const NO_COUNT: Count = Count {
     locks: 0,
 };
 
-/// How many names a shelf has on average, at most, where each line declares one.
+/// How many names a bucket has on average, at most, where each line declares one.
 const NAMES_ON_A_SHELF: usize = 8;
 
 /// How many code words a statement gives.
@@ -106,14 +106,14 @@ fn count_after(count: &Count, reading: &Reading) -> Count
 /// Some of the names of a text. The keys are parts of the text.
 type Shelf<'a> = BTreeMap<&'a [u8], Meaning>;
 
-/// What a name means by a shelf.
+/// What a name means by a bucket.
 fn found_on<'a>(shelf: &Shelf<'a>, name: &'a [u8]) -> Option<Meaning>
     ensures { result ≡ found_on shelf.now name.now }
 {
     shelf.get(&name).copied()
 }
 
-/// Gives a name a meaning on its shelf, unless it has one.
+/// Gives a name a meaning on its bucket, unless it has one.
 fn put_on<'a>(shelf: &mut Shelf<'a>, name: &'a [u8], meaning: Meaning) -> Result<(), Memory>
     ensures { OnOk result ((q : List ℕ) → found_on shelf.new q ≡ option_or (found_on shelf.old q) (if bytes_eq name.now q then Some meaning else None)) }
 {
@@ -124,7 +124,7 @@ fn put_on<'a>(shelf: &mut Shelf<'a>, name: &'a [u8], meaning: Meaning) -> Result
     Ok(())
 }
 
-/// So many shelves without names.
+/// So many buckets without names.
 fn empty_shelves<'a>(alloc: Global, count: usize) -> Result<Vec<Shelf<'a>>, Memory>
     ensures { IfOk result (λ shelves. All IsEmpty shelves.items) }
 {
@@ -147,8 +147,8 @@ fn hash(name: &[u8]) -> u64
     hash
 }
 
-/// The names of a text, on shelves by a hash of their bytes. So a look-up mostly compares few names. Each shelf is a tree: where
-/// names are chosen to stand on one shelf, a look-up takes time by the logarithm of their number.
+/// The names of a text, on buckets by a hash of their bytes. So a look-up mostly compares few names. Each bucket is a tree: where
+/// names are chosen to stand on one bucket, a look-up takes time by the logarithm of their number.
 #[derive(Drop)]
 pub(crate) struct Names<'a> {
     shelves: Vec<Shelf<'a>>,
@@ -156,7 +156,7 @@ pub(crate) struct Names<'a> {
 }
 
 impl<'a> Names<'a> {
-    /// No names, and so many shelves for them beside the last one.
+    /// No names, and so many buckets for them beside the last one.
     fn new(alloc: Global, count: usize) -> Result<Names<'a>, Memory>
         ensures { IfOk result (λ names. (q : List ℕ) → name_lookup names q ≡ None) }
     {
@@ -166,7 +166,7 @@ impl<'a> Names<'a> {
         })
     }
 
-    /// The number of a name's shelf; the last one has the number behind the others.
+    /// The number of a name's bucket; the last one has the number behind the others.
     fn shelf_number(&self, name: &[u8]) -> usize
         ensures { result ≡ shelf_number (length self.now.shelves.items) name.now }
     {

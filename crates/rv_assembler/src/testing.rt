@@ -14,7 +14,7 @@ use crate::emission::Emission;
 use crate::fault::SourceFault;
 use crate::names::{Count, Meaning, Names, meaning_of};
 use crate::number::{is_interval, is_length, wrapped};
-use crate::reading::Saying;
+use crate::parsing::Saying;
 use crate::statement::{Effect, Extent, Family, Statement};
 use src_text::{Token, TokenKind};
 

@@ -199,8 +199,7 @@ impl DecodedProgram {
 
     /// Whether the next instruction of a task needs nothing besides the task's own registers: `compute` would complete it then. The
     /// task must not have ended. Takes no memory.
-    // Out of line, as `compute`.
-    #[inline(never)]
+    #[inline(always)]
     pub fn computes(&self, state: &TaskState, fuel: u32) -> bool
         requires { state.now.end ≡ None }
         ensures { (d : ATask) → (result ≡ true) ↔ (need_of self.now d fuel state.now ≡ NeedsNothing) }

@@ -1,5 +1,5 @@
-//! Laws of completing an instruction, for proofs about machines that run tasks.
-//! A law is a function without effect; its contract states the theorem.
+//! Theorems of completing an instruction, for proofs about machines that run tasks. A theorem is a function without effect; its
+//! contract states the theorem.
 ghost use Rattle.std.specs.Prelude.{◌≡◌, ℕ, ◌^◌, ◌==◌, ◌&&◌, ◌||◌, not, true, bit_or, bit_xor};
 ghost use Rattle.dn_base.specs.declared.ids.WordId.{WordId};
 ghost use Rattle.region_table.specs.Program.{ProgramParts};

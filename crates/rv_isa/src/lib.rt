@@ -5,17 +5,17 @@
 //! arithmetic on two register values, and `taken` the test of a branch.
 #![tactic(auto)]
 
+mod decoding;
+mod encoding;
 mod fields;
 mod instr;
 mod meaning;
 mod ranges;
-mod reading;
 mod reg;
-mod writing;
 
+pub use decoding::decode;
+pub use encoding::{encode, encoding_is_unique};
 pub use instr::{AluOp, Cond, Instr, Width};
 pub use meaning::{alu, taken};
 pub use ranges::fits;
-pub use reading::decode;
 pub use reg::Reg;
-pub use writing::{encode, encoding_is_unique};

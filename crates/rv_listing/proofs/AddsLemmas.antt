@@ -3,11 +3,11 @@ use Rattle.std.proofs.Common.{◌≡◌, ℕ, ◌+◌, ◌<◌, ◌≤◌, Bool,
 use Rattle.src_text.specs.Line.{numbered}
 use Rattle.src_text.specs.declared.line.Line.{Line}
 use Rattle.rv_assembler.specs.declared.statement.Statement.{Statement}
-use Rattle.rv_assembler.specs.declared.reading.Reading.{Reading}
+use Rattle.rv_assembler.specs.declared.parsing.Reading.{Reading}
 use Rattle.rv_assembler.specs.declared.names.Meaning.{Meaning}
 use Rattle.rv_assembler.specs.declared.draft.Draft.{Draft}
 use Rattle.rv_assembler.specs.declared.names.Count.{Count}
-use Rattle.rv_assembler.specs.declared.reading.Reading as in_reading
+use Rattle.rv_assembler.specs.declared.parsing.Reading as in_reading
 use Rattle.rv_assembler.specs.declared.statement.Statement as in_statement
 use Rattle.rv_assembler.specs.Gathering.{meaning_in}
 use Rattle.rv_assembler.specs.Reading.{reading_of, read_line}

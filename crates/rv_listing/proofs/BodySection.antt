@@ -5,7 +5,7 @@ use Rattle.std.specs.List.{flat_map, range_with_len}
 use Rattle.src_text.specs.Line.{numbered}
 use Rattle.region_table.specs.Program.{ProgramParts, AreTiled}
 use Rattle.rv_assembler.specs.declared.statement.Statement.{Statement}
-use Rattle.rv_assembler.specs.declared.reading.Reading.{Reading}
+use Rattle.rv_assembler.specs.declared.parsing.Reading.{Reading}
 use Rattle.rv_assembler.specs.declared.names.Meaning.{Meaning}
 use Rattle.rv_assembler.specs.declared.draft.Draft.{Draft}
 use Rattle.rv_assembler.specs.declared.names.Count.{Count}

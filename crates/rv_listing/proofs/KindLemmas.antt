@@ -23,7 +23,7 @@ use Rattle.rv_assembler.specs.declared.kind.Directive as in_directive
 use Rattle.rv_assembler.specs.declared.kind.Form as in_form
 use Rattle.rv_assembler.specs.declared.kind.Kind as in_kind
 use Rattle.rv_assembler.specs.declared.kind.Mnemonic as in_mnemonic
-use Rattle.rv_assembler.specs.declared.reading.Reading as in_reading
+use Rattle.rv_assembler.specs.declared.parsing.Reading as in_reading
 use Rattle.rv_assembler.specs.Operand.{bytes_of}
 use Rattle.rv_assembler.specs.Shape.{memory_rows, operation_rows, short_rows, directive_rows, later_rows, is_colon, fits, knows_word, kind_for, none, name, n, r_n, r_t, r_r_t, r_r_n, r_r_r, r_at, name_n, name_n_n, name_name, name_name_n_n, n_t_n}
 use Rattle.rv_assembler.specs.Reading.{statement_for, statement_of, statement_in, said, read_tokens, is_version_of}

@@ -7,7 +7,7 @@ use Rattle.std.proofs.lemmas.Slice.Eq.{bytes_eq-Decides}
 use Rattle.src_text.specs.declared.token.Token.{Token}
 use Rattle.region_table.specs.declared.declared.Region.{Region}
 use Rattle.rv_assembler.specs.declared.statement.Statement.{Statement}
-use Rattle.rv_assembler.specs.declared.reading.Reading.{Reading}
+use Rattle.rv_assembler.specs.declared.parsing.Reading.{Reading}
 use Rattle.rv_assembler.specs.declared.names.Count.{Count}
 use Rattle.rv_assembler.specs.declared.statement.Statement as in_statement
 use Rattle.rv_assembler.specs.declared.names.Meaning as in_meaning

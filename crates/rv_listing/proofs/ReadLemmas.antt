@@ -9,9 +9,9 @@ use Rattle.src_text.specs.Line.{fault_of, is_over_limit, line_of, line_with, num
 use Rattle.src_text.specs.declared.line.Line.{Line}
 use Rattle.src_text.specs.declared.line.LineFault.TheVariants.{BadByte, BadNumber, LineLimit}
 use Rattle.src_text.specs.declared.token.Token.{Token}
-use Rattle.rv_assembler.specs.declared.reading.Reading.{Reading}
+use Rattle.rv_assembler.specs.declared.parsing.Reading.{Reading}
 use Rattle.rv_assembler.specs.declared.statement.Statement.{Statement}
-use Rattle.rv_assembler.specs.declared.reading.Reading as in_reading
+use Rattle.rv_assembler.specs.declared.parsing.Reading as in_reading
 use Rattle.rv_assembler.specs.declared.statement.Statement as in_statement
 use Rattle.rv_assembler.specs.Reading.{read_line, reading_of, is_version_of, version_line}
 use Rattle.rv_listing.proofs.LexLemmas.{code-plain, none-bad}

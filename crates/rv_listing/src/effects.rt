@@ -10,7 +10,7 @@ ghost use Rattle.rv_listing.specs.Law.{AreCanonical};
 ghost use Rattle.rv_listing.specs.Listing.{text_of, use_line, part_line, interval_lines, set_lines, guarded_lines, all_guarded_lines, effect_lines};
 
 use crate::statement::{Operand, push_line};
-use dn_base::{Memory, Name};
+use dn_base::{MOST_WORDS, Memory, Name};
 use region_table::{Effects, Interval, Region, WordSet};
 
 /// How a task uses words: the word of the statement, and the lock that it holds, if any.
@@ -49,7 +49,7 @@ fn push_part<'a>(
     interval: Interval,
     region: &'a Region,
 ) -> Result<(), Memory>
-    requires { region.now.start + region.now.len ≤ 65536 }
+    requires { region.now.start + region.now.len ≤ MOST_WORDS }
     ensures { OnOk result (out.new.items ≡ out.old.items ++ text_of (option_to_list (part_line usage.entry.word.now (option_map (λ s. s.now) usage.entry.lock) interval region.now))) }
 {
     let lo = interval.lo.max(region.start);
@@ -76,7 +76,7 @@ fn push_interval<'a>(
     from: usize,
     interval: Interval,
 ) -> Result<usize, Memory>
-    requires tiled { (size : ℕ) × (size ≤ 65536) × AreTiled 0 regions.now size }
+    requires tiled { (size : ℕ) × (size ≤ MOST_WORDS) × AreTiled 0 regions.now size }
     requires from { from ≤ length regions.now }
     requires passed { All (λ (r : Region). r.start + r.len ≤ interval.lo) (take from regions.now) }
     requires some { interval.lo < interval.hi }
@@ -103,7 +103,7 @@ pub(crate) fn push_set<'a>(
     regions: &'a [Region],
     set: &WordSet,
 ) -> Result<(), Memory>
-    requires { (size : ℕ) × (size ≤ 65536) × AreTiled 0 regions.now size }
+    requires { (size : ℕ) × (size ≤ MOST_WORDS) × AreTiled 0 regions.now size }
     ensures lines { OnOk result (out.new.items ≡ out.old.items ++ text_of (set_lines usage.entry.word.now (option_map (λ s. s.now) usage.entry.lock) regions.now set.now)) }
     ensures canonical { IfOk result (λ _. IsCanonical set.now) }
 {
@@ -122,7 +122,7 @@ fn push_guarded<'a>(
     number: usize,
     lock: &'a Name,
 ) -> Result<(), Memory>
-    requires tiled { (size : ℕ) × (size ≤ 65536) × AreTiled 0 regions.now size }
+    requires tiled { (size : ℕ) × (size ≤ MOST_WORDS) × AreTiled 0 regions.now size }
     requires reads { number < length effects.now.guarded_reads }
     requires writes { number < length effects.now.guarded_writes }
     ensures lines { OnOk result (out.new.items ≡ out.old.items ++ text_of (guarded_lines regions.now effects.now number lock.now)) }
@@ -159,7 +159,7 @@ fn push_all_guarded<'a>(
     locks: &'a [Name],
     effects: &Effects,
 ) -> Result<(), Memory>
-    requires tiled { (size : ℕ) × (size ≤ 65536) × AreTiled 0 regions.now size }
+    requires tiled { (size : ℕ) × (size ≤ MOST_WORDS) × AreTiled 0 regions.now size }
     requires reads { length effects.now.guarded_reads ≡ length locks.now }
     requires writes { length effects.now.guarded_writes ≡ length locks.now }
     ensures lines { OnOk result (out.new.items ≡ out.old.items ++ text_of (all_guarded_lines regions.now effects.now 0 locks.now)) }
@@ -179,7 +179,7 @@ pub(crate) fn push_effects<'a>(
     locks: &'a [Name],
     effects: &Effects,
 ) -> Result<(), Memory>
-    requires tiled { (size : ℕ) × (size ≤ 65536) × AreTiled 0 regions.now size }
+    requires tiled { (size : ℕ) × (size ≤ MOST_WORDS) × AreTiled 0 regions.now size }
     requires reads { length effects.now.guarded_reads ≡ length locks.now }
     requires writes { length effects.now.guarded_writes ≡ length locks.now }
     ensures lines { OnOk result (out.new.items ≡ out.old.items ++ text_of (effect_lines regions.now locks.now effects.now)) }

@@ -13,7 +13,7 @@ ghost use Rattle.rv_listing.specs.Listing.{text_of, version_lines, region_line, 
 use crate::effects::push_effects;
 use crate::instruction::push_code;
 use crate::statement::{Operand, push_line};
-use dn_base::{Memory, Name};
+use dn_base::{MOST_WORDS, Memory, Name};
 use region_table::{Phase, Program, Region, TaskDecl};
 use std::alloc::Global;
 
@@ -71,7 +71,7 @@ fn push_value(out: &mut Vec<u8>, region: &[u8], index: u32, value: u32) -> Resul
 
 /// Adds the lines of the words of a region that aren't 0.
 fn push_region_values(out: &mut Vec<u8>, region: &[u8], values: &[u32]) -> Result<(), Memory>
-    requires { length values.now ≤ 65536 }
+    requires { length values.now ≤ MOST_WORDS }
     ensures { OnOk result (out.new.items ≡ out.old.items ++ text_of (value_lines region.now 0 values.now)) }
 {
     let mut index = 0;
@@ -86,7 +86,7 @@ fn push_region_values(out: &mut Vec<u8>, region: &[u8], values: &[u32]) -> Resul
 
 fn push_values(out: &mut Vec<u8>, regions: &[Region], memory: &[u32]) -> Result<(), Memory>
     requires tiled { AreTiled 0 regions.now (length memory.now) }
-    requires memory { length memory.now ≤ 65536 }
+    requires memory { length memory.now ≤ MOST_WORDS }
     ensures lines { OnOk result (out.new.items ≡ out.old.items ++ text_of (flat_map (region_values memory.now) regions.now)) }
     ensures words { IfOk result (λ _. AreCodeWords memory.now) }
 {
@@ -147,7 +147,7 @@ fn push_task<'a>(
     locks: &'a [Name],
     task: &TaskDecl,
 ) -> Result<(), Memory>
-    requires tiled { (size : ℕ) × (size ≤ 65536) × AreTiled 0 regions.now size }
+    requires tiled { (size : ℕ) × (size ≤ MOST_WORDS) × AreTiled 0 regions.now size }
     requires reads { length task.now.effects.guarded_reads ≡ length locks.now }
     requires writes { length task.now.effects.guarded_writes ≡ length locks.now }
     ensures lines { OnOk result (out.new.items ≡ out.old.items ++ text_of (task_lines regions.now locks.now task.now)) }
@@ -164,7 +164,7 @@ fn push_phase<'a>(
     locks: &'a [Name],
     phase: &Phase,
 ) -> Result<(), Memory>
-    requires tiled { (size : ℕ) × (size ≤ 65536) × AreTiled 0 regions.now size }
+    requires tiled { (size : ℕ) × (size ≤ MOST_WORDS) × AreTiled 0 regions.now size }
     requires tasks { (words : ℕ) × All (IsTask words (length locks.now)) phase.now.tasks }
     ensures lines { OnOk result (out.new.items ≡ out.old.items ++ text_of (phase_lines regions.now locks.now phase.now)) }
     ensures words { IfOk result (λ _. All IsOfWords phase.now.tasks) }
@@ -182,7 +182,7 @@ fn push_phases<'a>(
     locks: &'a [Name],
     phases: &[Phase],
 ) -> Result<(), Memory>
-    requires tiled { (size : ℕ) × (size ≤ 65536) × AreTiled 0 regions.now size }
+    requires tiled { (size : ℕ) × (size ≤ MOST_WORDS) × AreTiled 0 regions.now size }
     requires phases { (words : ℕ) × All (IsPhase words (length locks.now)) phases.now }
     ensures lines { OnOk result (out.new.items ≡ out.old.items ++ text_of (flat_map (phase_lines regions.now locks.now) phases.now)) }
     ensures words { IfOk result (λ _. All IsOfWords (tasks_of phases.now)) }

@@ -4,9 +4,9 @@ use Rattle.std.specs.Option.{option_or}
 use Rattle.src_text.specs.declared.token.Token.{Token}
 use Rattle.rv_assembler.specs.declared.statement.Statement.{Statement}
 use Rattle.rv_assembler.specs.declared.statement.Statement as statement
-use Rattle.rv_assembler.specs.declared.reading.Saying.{Saying}
-use Rattle.rv_assembler.specs.declared.reading.Reading.{Reading}
-use Rattle.rv_assembler.specs.declared.reading.Reading.TheVariants.{Bad, Good}
+use Rattle.rv_assembler.specs.declared.parsing.Saying.{Saying}
+use Rattle.rv_assembler.specs.declared.parsing.Reading.{Reading}
+use Rattle.rv_assembler.specs.declared.parsing.Reading.TheVariants.{Bad, Good}
 use Rattle.rv_assembler.specs.declared.names.Meaning.{Meaning}
 use Rattle.rv_assembler.specs.declared.names.Meaning as meaning
 use Rattle.rv_assembler.specs.Operand.{bytes_of}

@@ -1,6 +1,6 @@
 -- Each origin is that of a row which a line gives.
 use Rattle.std.proofs.Common.{◌≡◌, ℕ, zero, suc, ◌+◌, List, [], ◌∷◌, ◌++◌, length, flat_map, Some, slice_get, refl, sym, ap, subst, append_assoc, append-nil, length-append, ◌⊎◌, inl, inr, ⊎_elim, arith}
-use Rattle.rv_assembler.specs.declared.reading.Saying.{Saying}
+use Rattle.rv_assembler.specs.declared.parsing.Saying.{Saying}
 use Rattle.rv_assembler.specs.Placed.{Placed, placed_behind}
 use Rattle.rv_assembler.proofs.TableLemmas.{place}
 use Rattle.text_places.specs.Places.{each_part, places_at, places_of}

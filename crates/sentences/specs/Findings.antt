@@ -14,9 +14,9 @@ use Rattle.rv_assembler.specs.declared.statement.Effect.{Effect}
 use Rattle.rv_assembler.specs.declared.statement.Family.{Family}
 use Rattle.rv_assembler.specs.declared.statement.Statement.{Statement}
 use Rattle.rv_assembler.specs.declared.statement.Statement as statement
-use Rattle.rv_assembler.specs.declared.reading.Saying.{Saying}
-use Rattle.rv_assembler.specs.declared.reading.Reading.{Reading}
-use Rattle.rv_assembler.specs.declared.reading.Reading.TheVariants.{Bad, Good}
+use Rattle.rv_assembler.specs.declared.parsing.Saying.{Saying}
+use Rattle.rv_assembler.specs.declared.parsing.Reading.{Reading}
+use Rattle.rv_assembler.specs.declared.parsing.Reading.TheVariants.{Bad, Good}
 use Rattle.rv_assembler.specs.Number.{natural_of}
 use Rattle.rv_assembler.specs.Operand.{bytes_of}
 use Rattle.rv_assembler.specs.Shape.{is_name, is_number, is_colon, is_plain}

@@ -1,6 +1,6 @@
 -- The line that a part of a program comes from, by the tables of the language's definition.
 use Rattle.std.specs.Prelude.{◌≡◌, ℕ, ◌+◌, List, ◌∷◌, ◌++◌, length, flat_map, Some, slice_get}
-use Rattle.rv_assembler.specs.declared.reading.Saying.{Saying}
+use Rattle.rv_assembler.specs.declared.parsing.Saying.{Saying}
 use Rattle.rv_assembler.specs.Placed.{Placed, placed}
 
 -- `lines` consists of some lines, the line of the row, and more lines. The rows that the lines before give, and those of the line itself

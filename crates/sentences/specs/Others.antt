@@ -6,8 +6,8 @@ use Rattle.src_text.specs.declared.line.Line.{Line}
 use Rattle.src_text.specs.declared.token.Token.{Token}
 use Rattle.rv_assembler.specs.declared.statement.Statement.{Statement}
 use Rattle.rv_assembler.specs.declared.statement.Statement as statement
-use Rattle.rv_assembler.specs.declared.reading.Reading.{Reading}
-use Rattle.rv_assembler.specs.declared.reading.Reading.TheVariants.{Bad, Good}
+use Rattle.rv_assembler.specs.declared.parsing.Reading.{Reading}
+use Rattle.rv_assembler.specs.declared.parsing.Reading.TheVariants.{Bad, Good}
 use Rattle.rv_assembler.specs.Operand.{bytes_of}
 use Rattle.rv_assembler.specs.Reading.{reading_of, version_line}
 use Rattle.sentences.specs.declared.findings.Cause.{Cause}

@@ -267,7 +267,7 @@ fn claims_of(
     program: &Program,
     contender: Contender,
 ) -> Result<Sequence<u32>, Memory>
-    requires { length text.now ≤ 1048576 }
+    requires { length text.now ≤ MOST_OF_TEXT }
     ensures { IfOk result (λ claims. claims ≡ claims_of text.now program.now contender) }
 {
     let tokenized = tokens(alloc, text)?;

@@ -239,7 +239,7 @@ fn push_contenders(out: &mut Vec<u8>, located: &Located, conflict: CheckFault) -
     }
 }
 
-/// Adds how to mend a conflict.
+/// Adds how to fix a conflict.
 fn push_remedy(out: &mut Vec<u8>, conflict: CheckFault) -> Result<(), Memory>
     ensures { OnOk result (out.new.items ≡ out.old.items ++ conflict_remedy conflict) }
 {
@@ -251,7 +251,7 @@ fn push_remedy(out: &mut Vec<u8>, conflict: CheckFault) -> Result<(), Memory>
 }
 
 /// Appends the sentences on a conflict of the text's program: the tasks that conflict on a word, with the lines that declare
-/// them, the lines of the effects that claim the word for them, and how to mend it.
+/// them, the lines of the effects that claim the word for them, and how to fix it.
 ///
 /// # Errors
 /// `Memory` if there is no room; the text may have a part of the sentences then.

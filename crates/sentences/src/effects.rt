@@ -6,7 +6,7 @@ ghost use Rattle.sentences.specs.Effects.{effect_on, effects_said, effects_behin
 
 use crate::claims::{family_behind, moved_for, moved_to, names_region, token_bytes};
 use crate::sites::{len_of, name_of};
-use dn_base::{MOST_OF_TEXT, Memory, Sequence};
+use dn_base::{MOST_OF_TEXT, MOST_WORDS, Memory, Sequence};
 use region_table::Program;
 use rv_assembler::{Effect, Extent, Reading, Statement, read_line, version_line};
 use src_text::{Line, Token, tokens};
@@ -81,7 +81,7 @@ fn effects_among(
 
 #[tactic(auto, unfolding(crate::specs::Effects::readings_effects))]
 fn effects_of(alloc: Global, text: &[u8]) -> Result<Sequence<EffectLine>, Memory>
-    requires { length text.now ≤ 1048576 }
+    requires { length text.now ≤ MOST_OF_TEXT }
     ensures { IfOk result (λ effects. effects ≡ readings_effects text.now) }
 {
     let tokenized = tokens(alloc, text)?;
@@ -141,7 +141,7 @@ fn bound_of(bound: i128) -> u32
 {
     if bound < 0 {
         0
-    } else if 65536 < bound {
+    } else if MOST_WORDS < bound {
         65537
     } else {
         bound as u32
@@ -160,7 +160,7 @@ fn between(lo: i128, hi: i128) -> Bounds
 fn moved_between(lo: i64, hi: i64, moved: i128) -> Bounds
     ensures { result ≡ moved_between lo hi moved }
 {
-    if -65536 <= moved && moved < 65537 {
+    if -MOST_WORDS <= moved && moved < 65537 {
         between(moved_to(lo, moved), moved_to(hi, moved))
     } else {
         Bounds { low: 0, high: 0 }

@@ -14,7 +14,7 @@ use crate::operands::{
     at_interval, at_number, at_word, code_out_of_range, limit_at, operand_at, tasks_out_of_range,
 };
 use crate::standing::{Standing, standing_in};
-use dn_base::Memory;
+use dn_base::{MOST_OF_TEXT, Memory};
 use rv_assembler::{
     Code, Effect, Reading, Saying, SourceFault, Statement, read_line, version_line,
 };
@@ -154,7 +154,7 @@ fn words_of_region(known: Option<Known>) -> u64
 
 /// How many words the region of this name is declared to have.
 fn words_named(alloc: Global, text: &[u8], bytes: &[u8], name: Token) -> Result<u64, Memory>
-    requires { length text.now ≤ 1048576 }
+    requires { length text.now ≤ MOST_OF_TEXT }
     ensures { IfOk result (λ words. words ≡ words_of_region (known_in text.now (bytes_of bytes.now name))) }
 {
     Ok(words_of_region(known_in(alloc, text, token_bytes(bytes, name))?))
@@ -169,7 +169,7 @@ fn out_of_range_at(
     tokens: &[Token],
     statement: &Statement,
 ) -> Result<Option<Finding>, Memory>
-    requires { length text.now ≤ 1048576 }
+    requires { length text.now ≤ MOST_OF_TEXT }
     ensures { IfOk result (λ finding. finding ≡ out_of_range_at text.now bytes.now tokens.now statement.now) }
 {
     match *statement {
@@ -230,7 +230,7 @@ fn known_token(
     bytes: &[u8],
     token: Option<Token>,
 ) -> Result<Option<Known>, Memory>
-    requires { length text.now ≤ 1048576 }
+    requires { length text.now ≤ MOST_OF_TEXT }
     ensures { IfOk result (λ known. known ≡ known_token text.now bytes.now token) }
 {
     match token {
@@ -245,7 +245,7 @@ fn declared_at_token(
     bytes: &[u8],
     token: Option<Token>,
 ) -> Result<Option<Finding>, Memory>
-    requires { length text.now ≤ 1048576 }
+    requires { length text.now ≤ MOST_OF_TEXT }
     ensures { IfOk result (λ finding. finding ≡ declared_at_token text.now bytes.now token) }
 {
     match token {
@@ -277,7 +277,7 @@ fn doubled_at(
     line: u32,
     saying: &Saying,
 ) -> Result<Option<Finding>, Memory>
-    requires { length text.now ≤ 1048576 }
+    requires { length text.now ≤ MOST_OF_TEXT }
     ensures { IfOk result (λ finding. finding ≡ doubled_at text.now bytes.now line saying.now) }
 {
     let first = known_token(alloc, text, bytes, saying.label)?;
@@ -347,7 +347,7 @@ fn want_of(
     bytes: &[u8],
     statement: &Statement,
 ) -> Result<Option<Want>, Memory>
-    requires { length text.now ≤ 1048576 }
+    requires { length text.now ≤ MOST_OF_TEXT }
     ensures { IfOk result (λ want. want ≡ want_of text.now bytes.now statement.now) }
 {
     match *statement {
@@ -370,7 +370,7 @@ fn unknown_at(
     bytes: &[u8],
     statement: &Statement,
 ) -> Result<Option<Finding>, Memory>
-    requires { length text.now ≤ 1048576 }
+    requires { length text.now ≤ MOST_OF_TEXT }
     ensures { IfOk result (λ finding. finding ≡ unknown_at text.now bytes.now statement.now) }
 {
     match want_of(alloc, text, bytes, statement)? {
@@ -401,7 +401,7 @@ fn misplaced_at(
     tokens: &[Token],
     statement: &Statement,
 ) -> Result<Option<Finding>, Memory>
-    requires { length text.now ≤ 1048576 }
+    requires { length text.now ≤ MOST_OF_TEXT }
     ensures { IfOk result (λ finding. finding ≡ misplaced_at text.now line tokens.now statement.now) }
 {
     match *statement {
@@ -417,7 +417,7 @@ fn misplaced_at(
 /// The version of a text, which is 0 for version 1.
 #[tactic(auto, unfolding(crate::specs::Findings::version_for_line))]
 fn version_for_line(alloc: Global, text: &[u8]) -> Result<u32, Memory>
-    requires { length text.now ≤ 1048576 }
+    requires { length text.now ≤ MOST_OF_TEXT }
     ensures { IfOk result (λ version. version ≡ version_for_line text.now) }
 {
     let tokenized = tokens(alloc, text)?;
@@ -437,7 +437,7 @@ fn finding_by(
     reading: &Reading,
     fault: SourceFault,
 ) -> Result<Option<Finding>, Memory>
-    requires { length text.now ≤ 1048576 }
+    requires { length text.now ≤ MOST_OF_TEXT }
     ensures { IfOk result (λ finding. finding ≡ finding_by text.now bytes.now tokens.now reading.now fault) }
 {
     let saying = match reading {
@@ -464,7 +464,7 @@ fn finding_on(
     line: &Line,
     fault: SourceFault,
 ) -> Result<Option<Finding>, Memory>
-    requires { length text.now ≤ 1048576 }
+    requires { length text.now ≤ MOST_OF_TEXT }
     ensures { IfOk result (λ finding. finding ≡ finding_on text.now bytes.now line.now fault) }
 {
     let tokens = line.tokens.as_slice();
@@ -504,8 +504,8 @@ fn finding_in(
     bytes: &[u8],
     fault: SourceFault,
 ) -> Result<Option<Finding>, Memory>
-    requires text { length text.now ≤ 1048576 }
-    requires bytes { length bytes.now ≤ 1048576 }
+    requires text { length text.now ≤ MOST_OF_TEXT }
+    requires bytes { length bytes.now ≤ MOST_OF_TEXT }
     ensures { IfOk result (λ finding. finding ≡ finding_in text.now bytes.now (line_alone bytes.now) fault) }
 {
     let tokenized = tokens(alloc, bytes)?;
@@ -522,8 +522,8 @@ pub(crate) fn finding_of(
     bytes: &[u8],
     fault: SourceFault,
 ) -> Result<Option<Finding>, Memory>
-    requires text { length text.now ≤ 1048576 }
-    requires bytes { length bytes.now ≤ 1048576 }
+    requires text { length text.now ≤ MOST_OF_TEXT }
+    requires bytes { length bytes.now ≤ MOST_OF_TEXT }
     ensures { IfOk result (λ finding. finding ≡ finding_of text.now bytes.now fault) }
 {
     match fault {

@@ -52,7 +52,7 @@ pub(crate) fn complaint(fault: SourceFault) -> &'static [u8]
     }
 }
 
-/// How to mend it, by the kind of the fault.
+/// How to fix it, by the kind of the fault.
 pub(crate) fn amendment(fault: SourceFault) -> &'static [u8]
     ensures { result.now ≡ amendment fault }
 {
@@ -81,7 +81,7 @@ pub(crate) fn amendment(fault: SourceFault) -> &'static [u8]
     }
 }
 
-/// How to mend a number or a label that is out of range.
+/// How to fix a number or a label that is out of range.
 fn range_amendment(cause: Cause) -> &'static [u8]
     ensures { result.now ≡ range_amendment cause }
 {
@@ -102,7 +102,7 @@ fn range_amendment(cause: Cause) -> &'static [u8]
     }
 }
 
-/// How to mend a statement that may not stand where it does.
+/// How to fix a statement that may not stand where it does.
 fn place_amendment(cause: Cause) -> &'static [u8]
     ensures { result.now ≡ place_amendment cause }
 {
@@ -126,7 +126,7 @@ fn word_amendment(fault: SourceFault, word: Option<Elsewhere>) -> &'static [u8]
     }
 }
 
-/// How to mend it, by what is wrong with a part of the line, if that is known.
+/// How to fix it, by what is wrong with a part of the line, if that is known.
 pub(crate) fn finding_amendment(
     fault: SourceFault,
     bytes: &[u8],

@@ -5,7 +5,7 @@ ghost use Rattle.rv_assembler.specs.Reading.{reading_of};
 ghost use Rattle.sentences.specs.Known.{is_labelled, sort_if, sort_by, sort_on, known_by, known_among, known_in};
 
 use crate::marks::bytes_between;
-use dn_base::Memory;
+use dn_base::{MOST_OF_TEXT, Memory};
 use rv_assembler::{Reading, Saying, Statement, read_line, version_line};
 use src_text::{Line, Token, tokens};
 use std::alloc::Global;
@@ -109,7 +109,7 @@ fn known_among(text: &[u8], version: u32, lines: &[Line], name: &[u8]) -> Option
 /// The first line of the text that declares the name.
 #[tactic(auto, unfolding(crate::specs::Known::known_in))]
 pub(crate) fn known_in(alloc: Global, text: &[u8], name: &[u8]) -> Result<Option<Known>, Memory>
-    requires { length text.now ≤ 1048576 }
+    requires { length text.now ≤ MOST_OF_TEXT }
     ensures { IfOk result (λ known. known ≡ known_in text.now name.now) }
 {
     let tokenized = tokens(alloc, text)?;

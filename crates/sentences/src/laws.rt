@@ -1,4 +1,4 @@
-//! Laws: what holds of effects and claims. A law is a function without effect; its contract states the theorem.
+//! Theorems: what holds of effects and claims. A theorem is a function without effect; its contract states the theorem.
 ghost use Rattle.std.specs.Prelude.{◌≡◌, ◌≢◌, ◌+◌, ◌<◌, ◌≤◌, ◌&&◌, nat_le, nat_lt, ◌+ℤ◌, ℕ, ℤ, Option, None, not, slice_get, pos, int_le, int_lt, true, false, List, Some, Ok};
 ghost use Rattle.std.specs.List.{IsAmong};
 ghost use Rattle.region_table.specs.Program.{ProgramParts};
@@ -51,10 +51,12 @@ ghost use Rattle.sentences.specs.Effects.{bounds_of, told_of_region};
 ghost use Rattle.sentences.specs.TableClaims.{IsTaskOf, IsClaimedOn, conflict_word};
 ghost use Rattle.sentences.specs.Conflicts.{first_contender, second_contender};
 
+use dn_base::MOST_WORDS;
+
 /// An effect gives a task of its family exactly the words of its region that it claims for that task by the definition of the
 /// language. The premises are that the effect isn't out of range, and that the region has at most 65,536 words.
 pub fn an_effect_gives_the_words_that_it_claims()
-    ensures { (phase : ℕ) (family : Cores) (u : Usage) (p : Span) (e : Extent) (part index : ℕ) → part < family.count → int_lt (pos index) p.len ≡ true → int_le p.len (pos 65536) ≡ true → extent_far (Some p) e family.count ≡ false → extent_has e part index ≡ claim_has (use_at phase family u p e part) (p.start + index) }
+    ensures { (phase : ℕ) (family : Cores) (u : Usage) (p : Span) (e : Extent) (part index : ℕ) → part < family.count → int_lt (pos index) p.len ≡ true → int_le p.len (pos MOST_WORDS) ≡ true → extent_far (Some p) e family.count ≡ false → extent_has e part index ≡ claim_has (use_at phase family u p e part) (p.start + index) }
 {}
 
 /// Each line that is quoted for a task of a conflict is an effect of the task's family, names the word's region, has the word for
@@ -81,7 +83,7 @@ pub fn a_quoted_effect_claims_the_word_for_its_task()
 /// way in which its effect is (`told`). Each line that claims a word of the region for the task is one of these lines: it is told,
 /// or counted as one more (`all`).
 pub fn the_told_lines_are_those_of_the_task()
-    ensures words { (e : Extent) (part len index : ℕ) → index < len → len ≤ 65536
+    ensures words { (e : Extent) (part len index : ℕ) → index < len → len ≤ MOST_WORDS
         → extent_has e part index ≡ (nat_le (bounds_of e part len).low index && nat_lt index (bounds_of e part len).high) }
     ensures told { (text : List ℕ) (program : ProgramParts) (t : TaskPlaceOf) (c : ContenderOf) (word : ℕ) (x : EffectLineOf) → source text ≡ Ok program → IsAmong (text_places text).tasks t
         → c.task ≡ Some t → IsWordPlace program.regions word c.place → IsAmong (told_of_region text program t c.place.region) x

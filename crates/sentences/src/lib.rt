@@ -1,5 +1,5 @@
-//! Sentences on what an answer of denovo speaks of: a task that didn't finish, a text that is refused, a conflict of two tasks. Each says
-//! where in the text it is, why, and how to mend it.
+//! Sentences on what an answer of denovo speaks of: a task that didn't finish, a text that is refused, a conflict of two tasks.
+//! Each says where in the text it is, why, and how to fix it.
 #![tactic(auto)]
 
 mod claiming;

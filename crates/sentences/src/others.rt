@@ -111,7 +111,7 @@ fn push_names_of(
 /// Adds the names of the text's lines.
 #[tactic(auto, unfolding(crate::specs::Others::listed_in))]
 fn push_names(out: &mut Vec<u8>, text: &[u8], wanted: Wanted) -> Result<(), Memory>
-    requires { length text.now ≤ 1048576 }
+    requires { length text.now ≤ MOST_OF_TEXT }
     ensures { OnOk result (out.new.items ≡ out.old.items ++ listed_in text.now wanted) }
 {
     let tokenized = tokens(*out.allocator(), text)?;
@@ -120,7 +120,7 @@ fn push_names(out: &mut Vec<u8>, text: &[u8], wanted: Wanted) -> Result<(), Memo
 }
 
 fn push_names_or_none(out: &mut Vec<u8>, text: &[u8], wanted: Wanted) -> Result<(), Memory>
-    requires { length text.now ≤ 1048576 }
+    requires { length text.now ≤ MOST_OF_TEXT }
     ensures { OnOk result (out.new.items ≡ out.old.items ++ names_or_none (listed_in text.now wanted)) }
 {
     let before = out.len();
@@ -134,7 +134,7 @@ fn push_names_or_none(out: &mut Vec<u8>, text: &[u8], wanted: Wanted) -> Result<
 
 #[tactic(auto, unfolding(crate::specs::Others::others_line))]
 fn push_others_line(out: &mut Vec<u8>, text: &[u8], wanted: Wanted) -> Result<(), Memory>
-    requires { length text.now ≤ 1048576 }
+    requires { length text.now ≤ MOST_OF_TEXT }
     ensures { OnOk result (out.new.items ≡ out.old.items ++ others_line text.now wanted) }
 {
     push(out, b"  Declared as such:")?;
@@ -143,7 +143,7 @@ fn push_others_line(out: &mut Vec<u8>, text: &[u8], wanted: Wanted) -> Result<()
 }
 
 fn push_others_by(out: &mut Vec<u8>, text: &[u8], cause: Cause) -> Result<(), Memory>
-    requires { length text.now ≤ 1048576 }
+    requires { length text.now ≤ MOST_OF_TEXT }
     ensures { OnOk result (out.new.items ≡ out.old.items ++ others_by text.now cause) }
 {
     match cause {

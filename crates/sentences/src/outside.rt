@@ -65,7 +65,7 @@ fn push_or_mended(out: &mut Vec<u8>) -> Result<(), Memory>
     push(out, b"`, or mend the address.\n")
 }
 
-/// Adds that a plain effect mends the access.
+/// Adds that a plain effect fixes the access.
 #[tactic(auto, unfolding(crate::specs::Outside::plain_remedy))]
 fn push_plain_remedy(
     out: &mut Vec<u8>,
@@ -81,7 +81,7 @@ fn push_plain_remedy(
     push_or_mended(out)
 }
 
-/// Adds that an effect by a lock mends the access, and what else is to be done.
+/// Adds that an effect by a lock fixes the access, and what else is to be done.
 #[tactic(auto, unfolding(crate::specs::Outside::guarded_remedy))]
 fn push_guarded_remedy(
     out: &mut Vec<u8>,
@@ -101,7 +101,7 @@ fn push_guarded_remedy(
     push(out, further)
 }
 
-/// Adds that an effect by a lock, while that is held, mends the access.
+/// Adds that an effect by a lock, while that is held, fixes the access.
 #[tactic(auto, unfolding(crate::specs::Outside::held_remedy))]
 fn push_held_remedy(
     out: &mut Vec<u8>,
@@ -519,7 +519,7 @@ fn push_site(
     }
 }
 
-/// Adds why the task of a core in a phase may not access the address so, and how to mend it.
+/// Adds why the task of a core in a phase may not access the address so, and how to fix it.
 pub(crate) fn push_outside(
     out: &mut Vec<u8>,
     text: &[u8],

@@ -80,7 +80,7 @@ fn push_line_sentences(
     push_sentence(out, finding_amendment(fault, bytes, finding))
 }
 
-/// Adds what is wrong and how it is mended, by the kind of the fault alone.
+/// Adds what is wrong and how it is fixed, by the kind of the fault alone.
 fn push_kind(out: &mut Vec<u8>, fault: SourceFault) -> Result<(), Memory>
     ensures { OnOk result (out.new.items ≡ out.old.items ++ kind_sentences fault) }
 {
@@ -117,7 +117,7 @@ fn push_sentences_at(
 }
 
 /// Appends the sentences on a text that the assembler refuses with this fault: the line with the fault after its number, a mark
-/// under the part that is wrong, why it is wrong, and how to mend it.
+/// under the part that is wrong, why it is wrong, and how to fix it.
 ///
 /// # Errors
 /// `Memory` if there is no room; the text may have a part of the sentences then.

@@ -3,7 +3,7 @@ ghost use Rattle.std.specs.Prelude.{◌≡◌, ◌≤◌, length, map, IfOk};
 ghost use Rattle.rv_assembler.specs.Reading.{reading_of};
 ghost use Rattle.sentences.specs.Standing.{begins_below, share_core, taken_if, standing_behind, standing_with, standing_after, standing_in};
 
-use dn_base::Memory;
+use dn_base::{MOST_OF_TEXT, Memory};
 use rv_assembler::{Cores, Family, Reading, Statement, family_cores, read_line, version_line};
 use src_text::{Line, tokens};
 use std::alloc::Global;
@@ -91,7 +91,7 @@ pub(crate) fn standing_in(
     line: u32,
     family: Family,
 ) -> Result<Standing, Memory>
-    requires { length text.now ≤ 1048576 }
+    requires { length text.now ≤ MOST_OF_TEXT }
     ensures { IfOk result (λ standing. standing ≡ standing_in text.now line family) }
 {
     let tokenized = tokens(alloc, text)?;

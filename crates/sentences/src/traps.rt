@@ -61,7 +61,7 @@ fn said_behind(kind: TrapKind) -> &'static [u8]
     }
 }
 
-/// How to mend a trap.
+/// How to fix a trap.
 fn remedy(kind: TrapKind) -> &'static [u8]
     ensures { result.now ≡ remedy kind }
 {
@@ -144,7 +144,7 @@ fn push_remedy(out: &mut Vec<u8>, kind: TrapKind) -> Result<(), Memory>
     push(out, b"\n")
 }
 
-/// Adds how to mend a trap; and before that, where a load or store isn't allowed, why.
+/// Adds how to fix a trap; and before that, where a load or store isn't allowed, why.
 fn push_mending(
     out: &mut Vec<u8>,
     text: &[u8],
@@ -166,7 +166,7 @@ fn push_mending(
     }
 }
 
-/// Adds why the task of this phase and core trapped at an address, and how to mend it.
+/// Adds why the task of this phase and core trapped at an address, and how to fix it.
 pub(crate) fn push_trap(
     out: &mut Vec<u8>,
     text: &[u8],

@@ -1,5 +1,5 @@
-//! What holds of every run beside lists of sharers, for readers of its numbers.
-//! A law is a function without effect; its contract states the theorem.
+//! What holds of every run beside lists of sharers, for readers of its numbers. A theorem is a function without effect; its
+//! contract states the theorem.
 ghost use Rattle.std.specs.Prelude.{◌≡◌, ◌≢◌, ℕ, ◌+◌, ◌<◌, ◌≤◌, [], List, length, count_by, slice_index_or, Some, None};
 ghost use Rattle.message_net.specs.declared.event.Event.{Event};
 ghost use Rattle.registration_protocol.specs.Node.{Setting};

@@ -40,7 +40,7 @@ impl Listing {
         }
     }
 
-    /// Notes the handling of the mail with this id, if it is in flight.
+    /// Notes the handling of the message with this id, if it is in flight.
     fn note_handle(&mut self, machine: &Machine, id: MailId)
         ensures { self.new ≡ listing self.old (served_mail_items machine.now.state (removed id machine.now.state.mails).0) }
     {
@@ -81,10 +81,10 @@ impl Listing {
         }
     }
 
-    /// Notes the events that come on a machine, up to the first that may not come. Returns whether all of them came.
+    /// Notes the events that come on a machine, up to the first that is not enabled. Returns whether all of them came.
     ///
     /// # Errors
-    /// `Memory` where there is no room for the mails, or for the words of the caches.
+    /// `Memory` where there is no room for the messages, or for the words of the caches.
     fn note_all(&mut self, machine: &mut Machine, events: &[Event]) -> Result<bool, Memory>
         requires few { machine.old.made + length events.now ≤ 4000000000 }
         ensures leads { result ≡ Ok true → self.new ≡ count_of_run machine.old.state self.old events.now }
@@ -104,7 +104,7 @@ impl Listing {
     }
 }
 
-/// The events that come on a machine beside lists, in these groups; None if one of them may not come.
+/// The events that come on a machine beside lists, in these groups; None if one of them are not enabled.
 ///
 /// # Errors
 /// `Memory` where there is no room.
@@ -127,7 +127,7 @@ fn listing_on(
     }
 }
 
-/// The events that come on a machine beside lists of sharers, in these groups; None if one of them may not come. Fewer than
+/// The events that come on a machine beside lists of sharers, in these groups; None if one of them are not enabled. Fewer than
 /// 4,000,000,000 events must have come on the machine after them.
 ///
 /// # Errors

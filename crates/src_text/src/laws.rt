@@ -1,4 +1,5 @@
-//! Laws: what holds of the lines and tokens of every text. A law is a function without effect; its contract states the theorem.
+//! Theorems: what holds of the lines and tokens of every text. A theorem is a function without effect; its contract states the
+//! theorem.
 
 ghost use Rattle.std.specs.Prelude.{◌≡◌, ◌≢◌, ℕ, List, [], ◌∷◌, None, All};
 ghost use Rattle.src_text.specs.Laws.{AreInOrder, AreLexemesOf, AreLinesOf, AreNumbered, AreTokensOf, IsLongestToken, HasNameBytes, IsPlaced, IsSliceOf, LeavesBlanks};

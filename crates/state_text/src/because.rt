@@ -1,4 +1,4 @@
-//! Whether an event may come, or why it may not.
+//! Whether an event is enabled, or why it may not.
 ghost use Rattle.std.specs.Prelude.{◌≡◌, ◌++◌, OnOk};
 ghost use Rattle.state_text.specs.Because.{reason_before, another_set, two_words_text, reason_names, reason_behind, reason_text, subject_text, may_line, may_not_line, whether_line};
 
@@ -87,7 +87,7 @@ fn text_behind(reason: Reason) -> &'static [u8]
     }
 }
 
-/// Adds what a reason says of the core or mail of an event.
+/// Adds what a reason says of the core or message of an event.
 #[tactic(auto, unfolding(crate::specs::Because::reason_text))]
 fn push_reason(out: &mut Vec<u8>, program: &Program, reason: Reason) -> Result<(), Memory>
     ensures { OnOk result (out.new.items ≡ out.old.items ++ reason_text program.now reason) }
@@ -132,7 +132,7 @@ fn push_may_not(
     push(out, b"\n")
 }
 
-/// Adds whether an event may come, or the reason against it.
+/// Adds whether an event is enabled, or the reason against it.
 pub(crate) fn push_whether(
     out: &mut Vec<u8>,
     program: &Program,

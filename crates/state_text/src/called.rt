@@ -1,4 +1,4 @@
-//! How words, cores, mails and events are called.
+//! How words, cores, messages and events are called.
 ghost use Rattle.std.specs.Prelude.{◌≡◌, ◌++◌, codes, OnOk};
 ghost use Rattle.std.specs.Fmt.{decimal};
 ghost use Rattle.text_pieces.specs.Pieces.{space};
@@ -61,7 +61,7 @@ fn push_pair(out: &mut Vec<u8>, tag: &[u8], first: u32, second: u32) -> Result<(
     push_decimal(out, second)
 }
 
-/// Adds who gets a mail.
+/// Adds who gets a message.
 #[tactic(auto, unfolding(crate::specs::Called::receiver_text))]
 pub(crate) fn push_receiver(out: &mut Vec<u8>, actor: Actor) -> Result<(), Memory>
     ensures { OnOk result (out.new.items ≡ out.old.items ++ receiver_text actor) }
@@ -73,7 +73,7 @@ pub(crate) fn push_receiver(out: &mut Vec<u8>, actor: Actor) -> Result<(), Memor
     }
 }
 
-/// Adds a mail by its sender and number.
+/// Adds a message by its sender and number.
 #[tactic(auto, unfolding(crate::specs::Called::mail_name))]
 fn push_mail_name(out: &mut Vec<u8>, id: MailId) -> Result<(), Memory>
     ensures { OnOk result (out.new.items ≡ out.old.items ++ mail_name id.sender id.number) }

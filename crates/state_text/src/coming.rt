@@ -1,4 +1,4 @@
-//! Which events may come.
+//! Which events are enabled.
 ghost use Rattle.std.specs.Prelude.{◌≡◌, ◌↔◌, ◌++◌, ◌<◌, true, flat_map, IfOk, OnOk, slice_get, Some};
 ghost use Rattle.std.specs.List.{IsAmong};
 ghost use Rattle.message_net.specs.declared.event.Event.{Event as AnEvent};
@@ -14,7 +14,7 @@ use registration_protocol::Node;
 use std::alloc::Global;
 use word_cache::Entry;
 
-/// Adds an event, if it may come.
+/// Adds an event, if it is enabled.
 fn push_if(events: &mut Sequence<Event>, machine: &Machine, event: Event) -> Result<(), Memory>
     ensures { OnOk result (events.new ≡ events.old ++ if_enabled machine.now.state event) }
 {
@@ -24,7 +24,7 @@ fn push_if(events: &mut Sequence<Event>, machine: &Machine, event: Event) -> Res
     Ok(())
 }
 
-/// Adds the evictions of these words that may come.
+/// Adds the enabled evictions of these words.
 fn push_evictions(
     events: &mut Sequence<Event>,
     machine: &Machine,
@@ -39,7 +39,7 @@ fn push_evictions(
     Ok(())
 }
 
-/// Adds the own events of a node that may come.
+/// Adds the enabled own events of a node.
 fn push_own(
     alloc: Global,
     events: &mut Sequence<Event>,
@@ -54,7 +54,7 @@ fn push_own(
     push_if(events, machine, Event::Arrive(node.core()))
 }
 
-/// Adds the own events of all cores that may come.
+/// Adds the enabled own events of all cores.
 fn push_cores(alloc: Global, events: &mut Sequence<Event>, machine: &Machine) -> Result<(), Memory>
     ensures { OnOk result (events.new ≡ events.old ++ flat_map (enabled_own machine.now.state) machine.now.state.nodes) }
 {
@@ -66,7 +66,7 @@ fn push_cores(alloc: Global, events: &mut Sequence<Event>, machine: &Machine) ->
     Ok(())
 }
 
-/// Adds the handling of each mail in flight.
+/// Adds the handling of each message in flight.
 fn push_handlings(events: &mut Sequence<Event>, pool: &Pool) -> Result<(), Memory>
     ensures { OnOk result (events.new ≡ events.old ++ handlings pool.now.mails) }
 {
@@ -87,8 +87,8 @@ fn list_events(alloc: Global, machine: &Machine) -> Result<Sequence<Event>, Memo
     Ok(events)
 }
 
-/// Exactly the events that may come: for each core, in the order of cores, its instruction, its evictions and its arrival; then
-/// the handling of each mail, in the order of the pool. It looks at each place of the caches once.
+/// Exactly the enabled events: for each core, in the order of cores, its instruction, its evictions and its arrival; then the
+/// handling of each message, in the order of the pool. It looks at each place of the caches once.
 ///
 /// # Errors
 /// `Memory` where there is no room.

@@ -1,4 +1,4 @@
-//! The lines of the keeper.
+//! The lines of the barrier controller.
 ghost use Rattle.std.specs.Prelude.{◌≡◌, ◌++◌, flat_map, length, OnOk};
 ghost use Rattle.std.specs.List.{range_with_len};
 ghost use Rattle.state_text.specs.Parts.{keeper_text, keeper_phase_line, counted_core_line, counted_line_of, bad_line, keeper_lines};
@@ -65,7 +65,7 @@ fn push_bad(out: &mut Vec<u8>) -> Result<(), Memory>
     push(out, b"\n")
 }
 
-/// Adds the keeper's phase, the cores that it counts, and whether a task of one was bad.
+/// Adds the barrier controller's phase, the cores that it counts, and whether a task of one was bad.
 pub(crate) fn push_keeper(out: &mut Vec<u8>, keeper: &Keeper) -> Result<(), Memory>
     ensures { OnOk result (out.new.items ≡ out.old.items ++ keeper_lines keeper.now) }
 {

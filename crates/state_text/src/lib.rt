@@ -1,5 +1,5 @@
-//! A state of the machine as text: what each part holds, one fact a line, which events may come, and why one may not. The state is
-//! that before an event of a document.
+//! A state of the machine as text: what each part holds, one fact a line, which events are enabled, and why one is not. The state
+//! is that before an event of a trace.
 //!
 //! Words, code words and locks have the names of the program's text. Every line ends with a newline.
 #![tactic(auto)]

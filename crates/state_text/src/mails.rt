@@ -1,4 +1,4 @@
-//! The lines of the mails in flight.
+//! The lines of the messages in flight.
 ghost use Rattle.std.specs.Prelude.{◌≡◌, ◌++◌, [], flat_map, codes, if◌then◌else◌, OnOk};
 ghost use Rattle.state_text.specs.Parts.{of_word, of_core, of_value, of_lock, of_phase, message_parts, in_flight_line, carried_lines, mail_lines};
 
@@ -77,7 +77,7 @@ fn push_word_and_value(
     push_of_value(out, value)
 }
 
-/// Adds a word, the value that its registrant gives back, and the registrant.
+/// Adds a word, the value that its owner gives back, and the owner.
 fn push_given_back(
     out: &mut Vec<u8>,
     program: &Program,
@@ -177,7 +177,7 @@ fn push_mail_lines(out: &mut Vec<u8>, machine: &Machine, mail: Mail) -> Result<(
     push_carried(out, machine, mail.id, mail.message)
 }
 
-/// Adds the lines of all mails in flight.
+/// Adds the lines of all messages in flight.
 pub(crate) fn push_mails(out: &mut Vec<u8>, machine: &Machine) -> Result<(), Memory>
     ensures { OnOk result (out.new.items ≡ out.old.items ++ flat_map (mail_lines machine.now.state) machine.now.state.mails) }
 {

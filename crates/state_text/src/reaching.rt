@@ -1,4 +1,4 @@
-//! The state before an event of a document.
+//! The state before an event of a trace.
 ghost use Rattle.std.specs.Prelude.{◌≡◌, ◌≤◌, length, take, IfOk};
 ghost use Rattle.dn_machine.specs.Sizes.{FitsMachine};
 ghost use Rattle.state_text.specs.Shown.{shown_text};
@@ -6,20 +6,20 @@ ghost use Rattle.state_text.specs.Reached.{IsFollowed, IsAnswerOf};
 
 use crate::answer::StateAnswer;
 use crate::shown_text;
-use dn_base::{Memory, Shape};
+use dn_base::{MOST_EVENTS, Memory, Shape};
 use dn_machine::{Machine, a_machine_is_kept};
 use effect_checker::Checked;
 use message_net::Event;
 use std::alloc::Global;
 use text_places::Places;
 
-/// Makes events one after the other, as long as each may come. Returns how many came.
+/// Makes events one after the other, as long as each is enabled. Returns how many came.
 ///
 /// # Errors
-/// `Memory` where there is no room for the mails.
+/// `Memory` where there is no room for the messages.
 fn follow(machine: &mut Machine, events: &[Event]) -> Result<u32, Memory>
     requires made { machine.old.made ≡ 0 }
-    requires few { length events.now ≤ 25169664 }
+    requires few { length events.now ≤ MOST_EVENTS }
     ensures { IfOk result (IsFollowed machine.old.state machine.new.state events.now) }
 {
     let mut came: u32 = 0;
@@ -34,10 +34,11 @@ fn follow(machine: &mut Machine, events: &[Event]) -> Result<u32, Memory>
     Ok(came)
 }
 
-/// The state of a machine before the event of a number, as text; or before an earlier event, if that is the first that may not come.
+/// The state of a machine before the event of a number, as text; or before an earlier event, if that is the first that is not
+/// enabled.
 ///
 /// # Errors
-/// `Memory` if there is no room for the mails or the text.
+/// `Memory` if there is no room for the messages or the text.
 fn answer_of(
     alloc: Global,
     machine: &mut Machine,
@@ -46,7 +47,7 @@ fn answer_of(
     asked: u32,
 ) -> Result<StateAnswer, Memory>
     requires made { machine.old.made ≡ 0 }
-    requires few { length events.now ≤ 25169664 }
+    requires few { length events.now ≤ MOST_EVENTS }
     requires asked { asked ≤ length events.now }
     ensures followed { IfOk result (λ answer. IsFollowed machine.old.state machine.new.state (take asked events.now) answer.event) }
     ensures text { IfOk result (λ answer. answer.text.items ≡ shown_text places.now machine.new.state events.now asked answer.event) }
@@ -57,17 +58,17 @@ fn answer_of(
     Ok(StateAnswer { event, text })
 }
 
-/// The state before the event of a number, from 0, as text; or before an earlier event, if that is the first that may not come.
-/// The number of all events asks for the state after the last one. The reason against the event is true, and exactly the events
-/// that may come are listed.
+/// The state before the event of a number, from 0, as text; or before an earlier event, if that is the first that is not enabled.
+/// The number of all events asks for the state after the last one. The reason against the event is true, and exactly the enabled
+/// events are listed.
 ///
-/// The places must be those of the program's text, from which lines and names are taken. The shape must have as many cores as
-/// the program needs, 1 to 16 banks, 1 to 256 sets and 1 to 16 ways. `fuel`, the number of instructions that a task may retire,
-/// must be 1 to 32,768, and there must be at most 25,169,664 events. Only the events before the one that is asked for are made;
-/// a mail that one of them handles is found by its id in constant time. Then each part of the state is looked at once.
+/// The places must be those of the program's text, from which lines and names are taken. The shape must have as many cores as the
+/// program needs, 1 to 16 banks, 1 to 256 sets and 1 to 16 ways. `fuel`, the number of instructions that a task may retire, must
+/// be 1 to 32,768, and there must be at most 25,169,664 events. Only the events before the one that is asked for are made; a
+/// message that one of them handles is found by its id in constant time. Then each part of the state is looked at once.
 ///
 /// # Errors
-/// `Memory` if there is no room for the machine, its mails or the text.
+/// `Memory` if there is no room for the machine, its messages or the text.
 pub fn state_at(
     alloc: Global,
     places: &Places,
@@ -78,7 +79,7 @@ pub fn state_at(
     asked: u32,
 ) -> Result<StateAnswer, Memory>
     requires fits { FitsMachine checked shape fuel }
-    requires few { length events.now ≤ 25169664 }
+    requires few { length events.now ≤ MOST_EVENTS }
     requires asked { asked ≤ length events.now }
     ensures { IfOk result (IsAnswerOf checked shape fuel places.now events.now asked) }
 {

@@ -1,6 +1,6 @@
 use dn_base::{LockId, WordId};
 
-/// Why an event may not come. Each reason but the last is about the core whose event it is.
+/// Why an event is not enabled. Each reason but the last is about the core whose event it is.
 #[derive(Clone, Copy)]
 pub enum Reason {
     /// The machine has no such core.
@@ -35,6 +35,6 @@ pub enum Reason {
     NeedsNoRoom,
     /// The word isn't in the set in which the next instruction needs room for the wanted word.
     OtherSet { word: WordId, wanted: WordId },
-    /// No mail in flight has the id.
+    /// No message in flight has the id.
     NoMail,
 }

@@ -86,7 +86,7 @@ fn push_end_line(out: &mut Vec<u8>, place: u32, count: usize) -> Result<(), Memo
     push(out, b"\n")
 }
 
-/// Adds the event at a place, and whether it may come.
+/// Adds the event at a place, and whether it is enabled.
 fn push_event_at(
     out: &mut Vec<u8>,
     machine: &Machine,
@@ -159,7 +159,7 @@ fn push_all_that_may(out: &mut Vec<u8>, program: &Program, events: &[Event]) -> 
     Ok(())
 }
 
-/// Adds the parts of a state, and the events that may come.
+/// Adds the parts of a state, and the enabled events.
 #[tactic(auto, unfolding(crate::specs::Shown::state_lines))]
 fn push_state(
     alloc: Global,
@@ -178,13 +178,14 @@ fn push_state(
     push_all_that_may(out, machine.program(), events.as_slice())
 }
 
-/// The text of a machine's state before the event at an index, from 0, of these events. `asked` is the index that was asked for. Where
-/// `place` is another one, the text says that the event there may not come, so that the one that was asked for isn't reached.
+/// The text of a machine's state before the event at an index, from 0, of these events. `asked` is the index that was asked for.
+/// Where `place` is another one, the text says that the event there is not enabled, so that the one that was asked for isn't
+/// reached.
 ///
 /// The places must be those of the program's text, from which lines and names are taken. Each part of the state is looked at once.
 ///
 /// # Errors
-/// `Memory` if there is no room for the text or for the list of the events that may come.
+/// `Memory` if there is no room for the text or for the list of the enabled events.
 #[tactic(auto, unfolding(crate::specs::Shown::shown_text))]
 pub fn shown_text(
     alloc: Global,

@@ -101,7 +101,7 @@ fn push_intervals(
     Ok(())
 }
 
-/// The words that a lock guards in the keeper's phase, if it has a plan and the plan the lock.
+/// The words that a lock guards in the barrier controller's phase, if it has a plan and the plan the lock.
 fn guarded<'a>(machine: &'a Machine, lock: LockId) -> Option<&'a WordSet>
     ensures { unwrap_or (option_copied result) [] ≡ guarded_by (slice_get machine.now.state.setting.plans machine.now.state.keeper.phase) lock.0 }
 {
@@ -111,7 +111,7 @@ fn guarded<'a>(machine: &'a Machine, lock: LockId) -> Option<&'a WordSet>
     }
 }
 
-/// Adds the words that a lock guards in the keeper's phase and that a signature may hold in it.
+/// Adds the words that a lock guards in the barrier controller's phase and that a signature may hold in it.
 pub(crate) fn push_signature(
     out: &mut Vec<u8>,
     machine: &Machine,

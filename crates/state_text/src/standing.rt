@@ -1,4 +1,4 @@
-//! Why an event may not come.
+//! Why an event is not enabled.
 ghost use Rattle.std.specs.Prelude.{◌≡◌, ◌↔◌, ◌<◌, true, IfSome, None, option_copied, slice_get};
 ghost use Rattle.message_net.specs.declared.event.Event.TheVariants as event;
 ghost use Rattle.registration_protocol.specs.Fit.{Fits};
@@ -38,7 +38,7 @@ fn need(machine: &Machine, node: &Node) -> Option<Need>
     node.needs(machine.program(), machine.fuel())
 }
 
-/// Why a node's instruction may not come.
+/// Why a node's instruction is not enabled.
 fn instr(machine: &Machine, node: &Node) -> Option<Reason>
     ensures { result ≡ instr_reason machine.now.state.setting node.now }
 {
@@ -96,8 +96,8 @@ fn first_reason(machine: &Machine, event: &Event) -> Option<Reason>
     }
 }
 
-/// Why an event may not come: the first of its conditions, in the order of the tables, that isn't met. None exactly if the
-/// event may come. Takes no memory.
+/// Why an event is not enabled: the first of its conditions, in the order of the tables, that isn't met. None exactly if the
+/// event is enabled. Takes no memory.
 pub fn reason_against(machine: &Machine, event: &Event) -> Option<Reason>
     ensures first { result ≡ reason_against machine.now.state event.now }
     ensures holds { IfSome result (HoldsIn machine.now.state event.now) }

@@ -1,11 +1,12 @@
 -- Parts of documents: a source text after its number of bytes, and a row of lines of one form.
 use Rattle.std.specs.Prelude.{◌≡◌, ℕ, ◌<◌, ◌≤◌, All, List, ◌++◌, codes, flat_map, length}
+use Rattle.dn_base.specs.declared.limits.TheConstants.{MOST_OF_TEXT}
 use Rattle.text_pieces.specs.Pieces.{newline}
 use Rattle.text_pieces.specs.Field.{field, NoneStands}
 
 -- a source text has at most 1,048,576 bytes
 abbrev pub IsSource : List ℕ → Type 0
-IsSource text = length text ≤ 1048576
+IsSource text = length text ≤ MOST_OF_TEXT
 
 -- the line with the number of bytes of the text, the text, and a newline
 unfoldable pub source_part : List ℕ → List ℕ

@@ -1,7 +1,7 @@
 -- The bytes of a line. And the origin of a code word once more, by the code of the lines before it.
 use Rattle.std.specs.Prelude.{◌≡◌, ℕ, zero, suc, ◌+◌, ◌<◌, List, ◌∷◌, ◌++◌, length, Option, None, slice_get}
 use Rattle.src_text.specs.Line.{cut}
-use Rattle.rv_assembler.specs.declared.reading.Saying.{Saying}
+use Rattle.rv_assembler.specs.declared.parsing.Saying.{Saying}
 use Rattle.rv_assembler.specs.declared.names.Meaning.{Meaning}
 use Rattle.rv_assembler.specs.Declarations.{meaning_of}
 use Rattle.rv_assembler.specs.Tables.{placed_code, tables}

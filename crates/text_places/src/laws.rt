@@ -1,4 +1,4 @@
-//! Laws: what holds of the origins in every text. A law is a function without effect; its contract states the theorem.
+//! Theorems: what holds of the origins in every text. A theorem is a function without effect; its contract states the theorem.
 ghost use Rattle.std.specs.Prelude.{◌≡◌, ◌<◌, ℕ, List, length, Ok, Some, slice_get};
 ghost use Rattle.region_table.specs.declared.declared.Region.{Region};
 ghost use Rattle.region_table.specs.Program.{ProgramParts, AreTiled};

@@ -8,7 +8,7 @@ ghost use Rattle.text_places.specs.Places as definition;
 ghost use Rattle.text_places.specs.Words.{is_task_of};
 ghost use Rattle.text_places.specs.Walk.{no_places, code_parts, task_parts, with_statement, with_reading, with_readings};
 
-use dn_base::{Memory, Sequence};
+use dn_base::{MOST_OF_TEXT, Memory, Sequence};
 use region_table::Program;
 use rv_assembler::{
     Cores, Reading, Saying, SourceFault, Statement, assemble, code_size, family_cores, read_line,
@@ -198,7 +198,7 @@ fn places_in(alloc: Global, version: u32, text: &[u8], lines: &[Line]) -> Result
 
 /// The places in a text.
 fn text_places(alloc: Global, text: &[u8]) -> Result<Places, Memory>
-    requires { length text.now ≤ 1048576 }
+    requires { length text.now ≤ MOST_OF_TEXT }
     ensures { IfOk result (λ places. places ≡ with_readings no_places (readings text.now)) }
 {
     let tokenized = tokens(alloc, text)?;
@@ -215,7 +215,7 @@ pub fn located_program(alloc: Global, text: &[u8]) -> Result<Located, SourceFaul
     ensures program { IfOk result (λ located. source text.now ≡ Ok located.program) }
     ensures places { IfOk result (λ located. located.places ≡ definition.text_places text.now) }
     ensures err { IfErr result (λ fault. fault ≢ NoMemory → source text.now ≡ Err fault) }
-    ensures large { 1048576 < length text.now → result ≡ Err TooLarge }
+    ensures large { MOST_OF_TEXT < length text.now → result ≡ Err TooLarge }
 {
     let program = assemble(alloc, text)?;
     let places = text_places(alloc, text)?;

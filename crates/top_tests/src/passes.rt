@@ -30,7 +30,7 @@ fn bank(alloc: Global, number: u32) -> Result<BankActor, Memory>
     Ok(BankActor::new(bank, Vec::new(alloc), 0, 0))
 }
 
-/// The keeper of one core and one phase.
+/// The barrier controller of one core and one phase.
 fn keeper(alloc: Global) -> KeeperActor
     ensures { (length result.state.keeper.arrived ≡ 1) × (result.state.inbox ≡ []) }
 {
@@ -76,7 +76,7 @@ fn unnoted(alloc: Global, bank: u32) -> BankLog
     }
 }
 
-/// A worker that owns the core, the banks and the keeper, when a run begins.
+/// A worker that owns the core, the banks and the barrier controller, when a run begins.
 fn crew(alloc: Global, context: &Context<'_>) -> Result<Crew, Memory>
     requires context { IsContext (setting context.now) }
     requires cores { (setting context.now).shape.cores ≡ 1 }
@@ -148,7 +148,7 @@ fn eight_passes<R: Wait>(
     Ok(made)
 }
 
-/// What a worker noted: of its cores, of its banks, and of the keeper.
+/// What a worker noted: of its cores, of its banks, and of the barrier controller.
 fn noted(alloc: Global, crew: &Crew) -> Result<Vec<Stamped>, Memory> {
     let mut all = Vec::new(alloc);
     for owned in crew.cores.iter() {
@@ -217,7 +217,8 @@ fn first_passes<R: Wait>(
     passes_in(rt, alloc, &context)
 }
 
-/// The events of `STORE_FIVE` as its only worker notes them: those of core 0, then that of bank 0, then that of the keeper.
+/// The events of `STORE_FIVE` as its only worker notes them: those of core 0, then that of bank 0, then that of the barrier
+/// controller.
 fn wanted() -> [Stamped; 10] {
     let [a, b, c, asked, d, e, f, g, arrived, h] = events_of_store_five();
     [a, b, c, d, e, f, g, h, asked, arrived]

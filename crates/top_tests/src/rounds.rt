@@ -47,7 +47,8 @@ fn round_of<R: Threads + Wait + Sync, G: Gate + Sync>(
     first_round(rt, alloc, machine, workers, gate)
 }
 
-/// What a round left: what was noted, the tasks that ended, how many events were made, whether one may come, and the first word.
+/// What a round left: what was noted, the tasks that ended, how many events were made, whether one is enabled, and the first
+/// word.
 #[derive(Drop)]
 struct Left {
     merged: Vec<Stamped>,

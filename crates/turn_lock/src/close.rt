@@ -15,7 +15,7 @@ use crate::turn::Turn;
 use dn_base::Memory;
 
 impl<O: Object> Turn<O> {
-    /// Ends the sharing. Gives the object, and all calls that were made of it in one order. The passes may come in any order.
+    /// Ends the sharing. Gives the object, and all calls that were made of it in one order. The passes may stand in any order.
     /// This implementation takes no memory, so it never returns an error.
     ///
     /// # Errors

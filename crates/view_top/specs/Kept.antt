@@ -1,5 +1,6 @@
 -- The run of a document, as it is passed between calls.
 use Rattle.std.specs.Prelude.{◌≡◌, ◌≤◌, ℕ, List, length}
+use Rattle.dn_base.specs.declared.limits.TheConstants.{MOST_EVENTS}
 use Rattle.region_table.specs.Program.{ProgramParts}
 use Rattle.dn_machine.specs.declared.record.RunRecord.{RunRecord}
 use Rattle.dn_machine.specs.Settings.{IsRunOn}
@@ -31,7 +32,7 @@ pub record IsKeptRun (P : ProgramParts) (t : Trace) (k : KeptRun) : Type 0 where
 -- what is known of such a run, so that a mode may make its events again and print it
 pub record IsViewable (k : KeptRun) : Type 0 where
   pub sizes : IsTraceShape k.sizes
-  pub few : length k.run.events ≤ 25169664
+  pub few : length k.run.events ≤ MOST_EVENTS
   pub run : HasChecked k.text (λ P. IsRunOn P (shape_told P k.sizes) k.sizes.fuel k.run.events)
   pub printable : IsPrintable k.run
 

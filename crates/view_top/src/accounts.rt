@@ -13,7 +13,7 @@ ghost use Rattle.view_top.specs.Kept.{IsViewable};
 use crate::AccountOptions;
 use crate::answering::{Output, done_with};
 use crate::documents::{KeptRun, kept_run, program_in, shape_of};
-use dn_base::Memory;
+use dn_base::{MOST_EVENTS, Memory};
 use dn_machine::{Machine, RunRecord, a_machine_is_kept};
 use effect_checker::Checked;
 use message_net::Event;
@@ -31,7 +31,7 @@ fn counted(
     program: Checked,
 ) -> Result<Account, Memory>
     requires sizes { IsTraceShape sizes }
-    requires few { length events.now ≤ 25169664 }
+    requires few { length events.now ≤ MOST_EVENTS }
     requires run { IsRunOn program (shape_told program sizes) sizes.fuel events.now }
     ensures { IfOk result (λ account. IsAccountOf program (shape_told program sizes) sizes.fuel events.now by account.tallies) }
 {
@@ -85,7 +85,7 @@ fn account(alloc: Global, options: &AccountOptions, kept: &KeptRun) -> Result<Ou
     printed(alloc, options.form, kept, &account)
 }
 
-/// The account of a document's run.
+/// The account of a trace's run.
 pub(crate) fn account_document(
     alloc: Global,
     options: &AccountOptions,

@@ -32,7 +32,7 @@ pub(crate) fn done_with(text: Vec<u8>) -> Output
     output(ViewStatus::Done, Sequence::from_vec(text))
 }
 
-/// The output that refuses the command words.
+/// The output that refuses the arguments.
 ///
 /// # Errors
 /// `Memory` where there is no room for its line.
@@ -44,7 +44,7 @@ pub(crate) fn refused_words(alloc: Global) -> Result<Output, Memory>
     Ok(output(ViewStatus::Usage, Sequence::from_vec(line)))
 }
 
-/// What each mode makes of a document.
+/// What each mode makes of a trace.
 fn view_made(alloc: Global, view: &View, document: &[u8]) -> Result<Output, Stop>
     requires { IsViewInRange view.now }
     ensures made { IfOk result (view_made view.now document.now) }
@@ -60,19 +60,19 @@ fn view_made(alloc: Global, view: &View, document: &[u8]) -> Result<Output, Stop
     }
 }
 
-/// The answer to options and the document of a run.
+/// The answer to options and the trace.
 ///
-/// A document is refused exactly as the mode replay of denovo refuses it, with the same line. In the mode chart the answer is
-/// the message chart of the run, as an SVG text. The options choose the events that have rows and the banks that have columns;
-/// the events of the run's longest chain of dependent events, by the options' ticks, are marked. If the first row would be
-/// after the run's last event, the words are refused. In the mode account the answer is the account of the run, in the groups
-/// and the form of the options; as a text it follows the report of the run, which is what the mode run of denovo prints. In the
-/// mode lists it is the run beside lists of sharers, in the same groups and forms.
+/// A trace is refused exactly as the mode replay of denovo refuses it, with the same line. In the mode chart the answer is the
+/// message chart of the run, as an SVG text. The options choose the events that have rows and the banks that have columns; the
+/// events of the run's longest chain of dependent events, by the options' ticks, are marked. If the first row would be after the
+/// run's last event, the words are refused. In the mode account the answer is the account of the run, in the groups and the form
+/// of the options; as a text it follows the report of the run, which is what the mode run of denovo prints. In the mode lists it
+/// is the run beside lists of sharers, in the same groups and forms.
 ///
-/// In the mode state the answer is the state before the event that the options ask for, and which events may come there. This
-/// mode also takes documents whose events are no complete run. If one of the events before the asked one may not come, the
-/// state is the one before that event, with the status `Unreached`. If the document has fewer events than the number that is
-/// asked for, the words are refused.
+/// In the mode state the answer is the state before the event that the options ask for, and which events are enabled there. This
+/// mode also takes documents whose events are no complete run. If one of the events before the asked one is not enabled, the
+/// state is the one before that event, with the status `Unreached`. If the trace has fewer events than the number that is asked
+/// for, the words are refused.
 ///
 /// In the mode page it is the data of the page of the run, as one JSON text: without a title, with the events that the options ask for and
 /// the run's longest chain by the options' ticks. Where the page's first event would be after the run's last one, the words are refused.

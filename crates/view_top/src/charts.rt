@@ -126,7 +126,7 @@ fn draw(alloc: Global, options: &ChartOptions, kept: &KeptRun) -> Result<Output,
     picture(alloc, options, kept)
 }
 
-/// The chart of a document's run.
+/// The chart of a trace's run.
 pub(crate) fn draw_document(
     alloc: Global,
     options: &ChartOptions,

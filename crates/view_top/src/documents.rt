@@ -1,4 +1,4 @@
-//! From a document to its program and its run: what modes do first.
+//! From a trace to its program and its run: what modes do first.
 ghost use Rattle.std.specs.Prelude.{◌≡◌, IfOk, IfErr, Ok};
 ghost use Rattle.rv_assembler.specs.Source.{source};
 ghost use Rattle.text_places.specs.Places.{text_places};
@@ -18,7 +18,7 @@ use rv_assembler::SourceFault;
 use std::alloc::Global;
 use text_places::{Located, located_program};
 
-/// The run of a document, with the size of its machine and its text. It has no program, since a machine uses one up: each step that
+/// The run of a trace, with the size of its machine and its text. It has no program, since a machine uses one up: each step that
 /// needs the program assembles the text.
 #[derive(Drop)]
 pub(crate) struct KeptRun {
@@ -27,7 +27,7 @@ pub(crate) struct KeptRun {
     pub(crate) run: RunRecord,
 }
 
-/// The machine of a checked program, in the size that a document tells.
+/// The machine of a checked program, in the size that a trace tells.
 pub(crate) fn shape_of(sizes: TraceShape, checked: &Checked) -> Shape
     ensures { result ≡ shape_told checked.now sizes }
 {
@@ -74,7 +74,7 @@ fn copy_of(alloc: Global, bytes: &[u8]) -> Result<Sequence<u8>, Memory>
     Ok(Sequence::from_vec(copy))
 }
 
-/// The run of what a document tells, beside a copy of its text: the replay uses up what was read.
+/// The run of what a trace tells, beside a copy of its text: the replay uses up what was read.
 fn kept_trace(alloc: Global, trace: Trace, checked: Checked) -> Result<KeptRun, Stop>
     requires { IsTrace trace }
     ensures kept { IfOk result (IsKeptRun checked trace) }
@@ -86,10 +86,10 @@ fn kept_trace(alloc: Global, trace: Trace, checked: Checked) -> Result<KeptRun, 
     Ok(KeptRun { sizes, text, run })
 }
 
-/// The run of a document.
+/// The run of a trace.
 ///
 /// # Errors
-/// `Refused` with the line by which the mode replay of denovo refuses the document, and `Memory` where there is no room.
+/// `Refused` with the line by which the mode replay of denovo refuses the trace, and `Memory` where there is no room.
 pub(crate) fn kept_run(alloc: Global, document: &[u8]) -> Result<KeptRun, Stop>
     ensures kept { IfOk result (λ kept. HasKeptRun document.now (λ _ trace run. kept ≡ kept_run_of trace run)) }
     ensures ready { IfOk result IsViewable }

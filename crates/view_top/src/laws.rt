@@ -1,4 +1,4 @@
-//! What holds of every answer. A law is a function without effect; its contract states the theorem.
+//! What holds of every answer. A theorem is a function without effect; its contract states the theorem.
 ghost use Rattle.std.specs.Prelude.{◌≡◌, ℕ, List, length, Ok, Some, slice_get};
 ghost use Rattle.region_table.specs.Program.{ProgramParts};
 ghost use Rattle.rv_assembler.specs.Source.{source};

@@ -1,4 +1,4 @@
-//! The program view, except its `main`: from command words and the document of a run to what the words ask to see of the run.
+//! The program view, except its `main`: from arguments and the trace to what the words ask to see of the run.
 #![tactic(auto)]
 
 mod accounts;
@@ -10,8 +10,8 @@ mod laws;
 mod lists;
 mod options;
 mod pages;
+mod parsing;
 mod program;
-mod reading;
 mod run_data;
 mod serving;
 mod states;
@@ -22,7 +22,7 @@ pub use answering::{Output, answer};
 pub use command_words::WordsFault;
 pub use laws::each_line_gives_its_code_word;
 pub use options::{AccountOptions, ChartOptions, PageOptions, StateOptions, View};
+pub use parsing::read_words;
 pub use program::view_program;
-pub use reading::read_words;
 pub use serving::{Viewer, view_main};
 pub use status::ViewStatus;

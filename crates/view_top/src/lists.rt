@@ -13,7 +13,7 @@ use crate::AccountOptions;
 use crate::accounts::heading;
 use crate::answering::{Output, done_with};
 use crate::documents::{KeptRun, kept_run, program_in, shape_of};
-use dn_base::Memory;
+use dn_base::{MOST_EVENTS, Memory};
 use dn_machine::{Machine, a_machine_is_kept};
 use effect_checker::Checked;
 use message_net::Event;
@@ -32,7 +32,7 @@ fn counted(
     program: Checked,
 ) -> Result<Listing, Memory>
     requires sizes { IsTraceShape sizes }
-    requires few { length events.now ≤ 25169664 }
+    requires few { length events.now ≤ MOST_EVENTS }
     requires run { IsRunOn program (shape_told program sizes) sizes.fuel events.now }
     ensures { IfOk result (λ listing. IsListingOf program (shape_told program sizes) sizes.fuel events.now by listing.tallies) }
 {
@@ -75,7 +75,7 @@ fn beside(alloc: Global, options: &AccountOptions, kept: &KeptRun) -> Result<Out
     printed(alloc, options.form, kept, &listing)
 }
 
-/// A document's run beside lists.
+/// A trace's run beside lists.
 pub(crate) fn lists_document(
     alloc: Global,
     options: &AccountOptions,

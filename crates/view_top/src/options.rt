@@ -1,8 +1,7 @@
 use run_account::{Form, Grouping};
 use run_chart::Columns;
 
-/// What is made of the document of a run, and with which options. Each mode has its own options, and ignores those of the other
-/// modes.
+/// What is made of the trace, and with which options. Each mode has its own options, and ignores those of the other modes.
 #[derive(Clone, Copy)]
 pub enum View {
     /// The message chart of the run, as an SVG text.
@@ -11,7 +10,7 @@ pub enum View {
     Account(AccountOptions),
     /// The run beside lists of sharers, in numbers.
     Lists(AccountOptions),
-    /// A state of the run, and what may come there.
+    /// A state of the run, and what is enabled there.
     State(StateOptions),
     /// The data of the page that shows the run in a browser, as one JSON text.
     Page(PageOptions),

@@ -98,7 +98,7 @@ fn paged(alloc: Global, options: &PageOptions, kept: &KeptRun) -> Result<Output,
     data(alloc, options, kept)
 }
 
-/// The page of a document's run.
+/// The page of a trace's run.
 pub(crate) fn page_document(
     alloc: Global,
     options: &PageOptions,

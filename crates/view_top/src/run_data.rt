@@ -118,7 +118,7 @@ fn asked_data(alloc: Global, options: &PageOptions, kept: &KeptRun) -> Result<Ou
     told_output(alloc, options, kept)
 }
 
-/// The data of a document's run.
+/// The data of a trace's run.
 pub(crate) fn data_document(
     alloc: Global,
     options: &PageOptions,

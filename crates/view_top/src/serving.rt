@@ -13,7 +13,7 @@ use dn_base::{Memory, Sink, Source};
 use program_outside::{Answers, Program, serve_words};
 use std::alloc::Global;
 
-/// The program view: from a view and the document of a run to what is to be seen of the run.
+/// The program view: from a view and the trace to what is to be seen of the run.
 pub struct Viewer;
 
 impl Answers for Viewer {
@@ -38,13 +38,13 @@ impl Program for Viewer {
     }
 }
 
-/// The whole program except its `main`: answers these command words and this source, and returns how it ended.
+/// The whole program except its `main`: answers these arguments and this source, and returns how it ended.
 ///
 /// The status is `Usage` if the command doesn't take the words; the source is left alone then. Otherwise the source is read to
-/// its end, or to one byte more than the document of a run may have, and `answer` gives the answer and its status. The whole
-/// answer is made before anything is written; then it is written and flushed. The status is `ReadFault` or `WriteFault` if the
-/// source or the sink failed, and `Memory` if there wasn't enough memory. Then the sink has taken at most a prefix of the
-/// answer, and nothing if it didn't fail itself.
+/// its end, or to one byte more than the trace may have, and `answer` gives the answer and its status. The whole answer is made
+/// before anything is written; then it is written and flushed. The status is `ReadFault` or `WriteFault` if the source or the
+/// sink failed, and `Memory` if there wasn't enough memory. Then the sink has taken at most a prefix of the answer, and nothing
+/// if it didn't fail itself.
 pub fn view_main<S: Source, K: Sink>(
     alloc: Global,
     words: &[String],

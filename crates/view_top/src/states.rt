@@ -1,4 +1,4 @@
-//! The mode state: a state of a document's run, and what may come there.
+//! The mode state: a state of a trace's run, and what is enabled there.
 ghost use Rattle.std.specs.Prelude.{◌≡◌, ◌≤◌, length, IfOk, IfErr};
 ghost use Rattle.run_replay.specs.Document.{IsTrace};
 ghost use Rattle.text_places.specs.Places.{text_places};
@@ -31,7 +31,7 @@ fn status_at(asked: u32, place: u32) -> ViewStatus
     }
 }
 
-/// The state before the event that the options ask for, or before the first that may not come.
+/// The state before the event that the options ask for, or before the first that is not enabled.
 fn state_before(
     alloc: Global,
     options: &StateOptions,
@@ -54,7 +54,7 @@ fn state_before(
     ))
 }
 
-/// That state, or the refusal of a number that is above the number of the document's events.
+/// That state, or the refusal of a number that is above the number of the trace's events.
 fn state_in(
     alloc: Global,
     options: &StateOptions,
@@ -75,7 +75,7 @@ fn state_in(
     shown
 }
 
-/// The state before an event of a document. Only those before it need be events of a run.
+/// The state before an event of a trace. Only those before it need be events of a run.
 pub(crate) fn show_state(
     alloc: Global,
     options: &StateOptions,

@@ -6,13 +6,13 @@ use program_outside::{EndStatus, Failure};
 /// How the program ended, as its exit code tells it.
 #[derive(Clone, Copy)]
 pub enum ViewStatus {
-    /// What the words ask for was made, whatever the outcome of the document's run.
+    /// What the words ask for was made, whatever the outcome of the trace's run.
     Done = 0,
-    /// The command doesn't take the words, or they ask for an event that the document doesn't have.
+    /// The command doesn't take the words, or they ask for an event that the trace doesn't have.
     Usage = 1,
-    /// The document was refused, or its text.
+    /// The trace was refused, or its text.
     Refused = 2,
-    /// The state is the one before an earlier event than the one that was asked for, because that earlier event may not come.
+    /// The state is the one before an earlier event than the one that was asked for, because that earlier event is not enabled.
     Unreached = 3,
     /// A read of the source failed.
     ReadFault = 6,

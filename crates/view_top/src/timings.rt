@@ -1,4 +1,4 @@
-//! The timing of a document's run.
+//! The timing of a trace's run.
 ghost use Rattle.std.specs.Prelude.{◌≡◌, IfOk};
 ghost use Rattle.run_timing.specs.Ticks.{AreWithinLimits};
 ghost use Rattle.run_report.specs.Texts.{HasProgram};

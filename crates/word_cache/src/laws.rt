@@ -1,5 +1,5 @@
-//! Laws of the changes of a cache's list, for proofs about a core's entries.
-//! A law is a function without effect; its contract states the theorem.
+//! Theorems of the changes of a cache's list, for proofs about a core's entries. A theorem is a function without effect; its
+//! contract states the theorem.
 ghost use Rattle.std.specs.Prelude.{◌≡◌, ◌≢◌, ℕ, ◌+◌, ◌%◌, ◌<◌, ◌≤◌, ◌==◌, ◌||◌, Bool, true, false, Some, None, List, [], if◌then◌else◌, count_by};
 ghost use Rattle.std.specs.Option.{option_map, is_some};
 ghost use Rattle.dn_base.specs.declared.ids.WordId.{WordId};

@@ -12,7 +12,7 @@ use std::marker::Model;
 pub enum Entry {
     /// A copy of the word. `marked` says that the core's task has read it in this phase by its plain effects.
     Valid { value: u32, marked: bool },
-    /// The core is the word's registrant. `pending` says that the home hasn't acknowledged it yet.
+    /// The core is the word's owner. `pending` says that the home hasn't acknowledged it yet.
     Registered { value: u32, pending: bool },
     /// The word was written back to its home with this value, and the home hasn't acknowledged that yet.
     Leaving(u32),

@@ -1,6 +1,6 @@
 //! Runs the program on each case of the files here, and says which answers aren't those that the case wants, which runs aren't
-//! the flat machine's by their grants, which times aren't those of the slowest of all chains, and in how many cases events of each
-//! kind came.
+//! the reference machine's by their grants, which times aren't those of the slowest of all chains, and in how many cases events
+//! of each kind came.
 #![tactic(auto)]
 
 mod checking;

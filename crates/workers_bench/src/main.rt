@@ -25,7 +25,7 @@ use std::{env, io};
 /// The seed of all runs.
 const SEED: u32 = 1;
 
-/// The command words, without the program's name.
+/// The arguments, without the program's name.
 fn words(rt: &(impl Env + AllocGlobal)) -> io::Result<Vec<String>> {
     let mut words = Vec::new(rt.alloc());
     for word in env::args(rt)?.skip(1) {

@@ -56,7 +56,7 @@ impl Tally {
     }
 }
 
-/// Whether no event may come, or a round takes the machine no more.
+/// Whether no event is enabled, or a round takes the machine no more.
 fn is_over(machine: &Machine) -> bool
     ensures { result ≡ false → machine.now.made < 3000000000 }
 {

@@ -1,5 +1,5 @@
-//! Laws of the definitions of insertion and join, for proofs about signatures.
-//! A law is a function without effect; its contract states the theorem.
+//! Theorems of the definitions of insertion and join, for proofs about signatures. A theorem is a function without effect; its
+//! contract states the theorem.
 ghost use Rattle.std.specs.Prelude.{◌≡◌, ◌≢◌, ℕ, ◌<◌, ◌≤◌, ◌||◌, max, false, IsTrue};
 ghost use Rattle.write_signature.specs.declared.signature.Signature.{Signature};
 ghost use Rattle.write_signature.specs.Signature.{tag, has_bit, in_phase, empty, may_hold, inserted, joined};

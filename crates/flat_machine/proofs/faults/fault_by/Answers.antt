@@ -1,7 +1,6 @@
-use Rattle.std.proofs.Common.{rules, ◌≡◌, get_or, Some}
+use Rattle.std.proofs.Common.{rules, ◌≡◌, Some}
 use Rattle.dn_base.specs.declared.ids.Grant.{Grant}
 use Rattle.flat_machine.specs.Grants.{grants_from, IsStoppedAt}
-use Rattle.flat_machine.specs.Faults.{grant_fault}
 use Rattle.flat_machine.proofs.FaultLemmas.{stops-at, stops-at-end}
 use Rattle.flat_machine.proofs.faults.fault_by.Goals as goal
 

@@ -1,4 +1,4 @@
-use Rattle.std.proofs.Common.{◌≡◌, ◌≤◌, true, map, sym, ap, subst, ◌∙◌}
+use Rattle.std.proofs.Common.{◌≡◌, true, map, sym, ap, subst, ◌∙◌}
 use Rattle.message_net.specs.declared.event.Event.TheVariants.{Instr}
 use Rattle.registration_protocol.specs.OwnEvents.{own_event}
 use Rattle.registration_protocol.specs.Setting.{setting}

@@ -1,4 +1,4 @@
-use Rattle.std.proofs.Common.{◌≡◌, ◌+◌, true, false, Ok, List, [], ◌++◌, drop, get_or, Option, Some, None, sym, ap, ◌∙◌, arith}
+use Rattle.std.proofs.Common.{◌≡◌, ◌+◌, true, false, Ok, List, [], ◌++◌, drop, get_or, Option, Some, sym, ap, ◌∙◌, arith}
 use Rattle.std.proofs.lemmas.List.{append-nil, drop_all}
 use Rattle.dn_base.specs.declared.ids.Grant.{Grant}
 use Rattle.flat_machine.specs.declared.accesses.FlatAction.{FlatAction}

@@ -1,0 +1,261 @@
+ghost use Rattle.std.specs.Prelude.{◌≡◌, ◌≤◌, IfOk, IfErr, map, string_bytes, Some, None, option_map};
+ghost use Rattle.std.specs.Int.{IsInRange};
+ghost use Rattle.clap.specs.Words.{rows_of, found_of, first_of};
+ghost use Rattle.command_words.specs.declared.words.WordsFault.TheVariants.{Usage};
+ghost use Rattle.view_top.specs.Command.{account_options_from, chart_options_from, columns_in, columns_named, form_in, form_named, grouping_in, grouping_named, data_options_from, events_asked, view_by_mode, page_options_from, rows_in, state_options_from, view_from, view_named, view_of, view_of_rows, AreEventsInRange, IsChartInRange, IsDataInRange, IsPageInRange, IsViewInRange};
+
+use crate::command::view_command;
+use crate::options::{AccountOptions, ChartOptions, PageOptions, StateOptions, View};
+use clap::ArgMatches;
+use command_words::{WordsFault, matches_by, number};
+use page_data::MOST_ROWS;
+use run_account::{Form, Grouping};
+use run_chart::Columns;
+use std::alloc::Global;
+
+/// The text of an option.
+fn text_of<'a>(matches: &ArgMatches<'a>, name: &str) -> Option<&'a str>
+    ensures { option_map (λ s. s.now) result ≡ first_of name.now (rows_of (found_of matches.now)) }
+{
+    matches.get_str(name)
+}
+
+/// How many rows are asked for, from 1 to `most`; `otherwise` where no word says it.
+fn rows(matches: &ArgMatches<'_>, otherwise: u32, most: u32) -> Option<u32>
+    requires { IsInRange 1 most otherwise }
+    ensures value { result ≡ rows_in (rows_of (found_of matches.now)) otherwise most }
+    ensures within { (n : _) → result ≡ Some n → IsInRange 1 most n }
+{
+    match text_of(matches, "rows") {
+        Some(_) => number(matches, "rows", 1, most),
+        None => Some(otherwise),
+    }
+}
+
+/// The columns of this name.
+fn columns_named(text: &str) -> Option<Columns>
+    ensures { result ≡ columns_named text.now }
+{
+    match text {
+        "all" => Some(Columns::All),
+        "used" => Some(Columns::Used),
+        _ => None,
+    }
+}
+
+/// The columns that the words ask for.
+fn columns(matches: &ArgMatches<'_>) -> Option<Columns>
+    ensures { result ≡ columns_in (rows_of (found_of matches.now)) }
+{
+    match text_of(matches, "columns") {
+        Some(text) => columns_named(text),
+        None => None,
+    }
+}
+
+/// What a chart with these columns is asked, where each number is in its range.
+#[tactic(auto, unfolding(crate::specs::Command::chart_options_from))]
+fn chart_options(matches: &ArgMatches<'_>, columns: Columns) -> Option<ChartOptions>
+    ensures value { result ≡ chart_options_from (rows_of (found_of matches.now)) columns }
+    ensures limits { (o : _) → result ≡ Some o → IsChartInRange o }
+{
+    Some(ChartOptions {
+        first: number(matches, "first", 0, 4_294_967_295)?,
+        rows: rows(matches, 1000, 4096)?,
+        columns,
+        tick_core: number(matches, "tick-core", 1, 1_000_000)?,
+        tick_bank: number(matches, "tick-bank", 1, 1_000_000)?,
+        tick_mail: number(matches, "tick-mail", 1, 1_000_000)?,
+    })
+}
+
+/// The groups of this name.
+fn grouping_named(text: &str) -> Option<Grouping>
+    ensures { result ≡ grouping_named text.now }
+{
+    match text {
+        "run" => Some(Grouping::Run),
+        "phase" => Some(Grouping::Phase),
+        "core" => Some(Grouping::Core),
+        "region" => Some(Grouping::Region),
+        _ => None,
+    }
+}
+
+/// The form of this name.
+fn form_named(text: &str) -> Option<Form>
+    ensures { result ≡ form_named text.now }
+{
+    match text {
+        "text" => Some(Form::Text),
+        "csv" => Some(Form::Csv),
+        _ => None,
+    }
+}
+
+/// The groups that the words ask for.
+fn grouping(matches: &ArgMatches<'_>) -> Option<Grouping>
+    ensures { result ≡ grouping_in (rows_of (found_of matches.now)) }
+{
+    match text_of(matches, "by") {
+        Some(text) => grouping_named(text),
+        None => None,
+    }
+}
+
+/// The form that the words ask for.
+fn form(matches: &ArgMatches<'_>) -> Option<Form>
+    ensures { result ≡ form_in (rows_of (found_of matches.now)) }
+{
+    match text_of(matches, "form") {
+        Some(text) => form_named(text),
+        None => None,
+    }
+}
+
+/// What an account is asked, and a run beside lists.
+#[tactic(auto, unfolding(crate::specs::Command::account_options_from))]
+fn account_options(matches: &ArgMatches<'_>) -> Option<AccountOptions>
+    ensures { result ≡ account_options_from (rows_of (found_of matches.now)) }
+{
+    Some(AccountOptions {
+        by: grouping(matches)?,
+        form: form(matches)?,
+    })
+}
+
+/// What a state is asked.
+#[tactic(auto, unfolding(crate::specs::Command::state_options_from))]
+fn state_options(matches: &ArgMatches<'_>) -> Option<StateOptions>
+    ensures { result ≡ state_options_from (rows_of (found_of matches.now)) }
+{
+    Some(StateOptions {
+        event: number(matches, "event", 0, 4_294_967_295)?,
+    })
+}
+
+/// What a page is asked that has at most `most` events, where each number is in its range; `otherwise` where no word says how many.
+#[tactic(auto, unfolding(crate::specs::Command::events_asked))]
+fn events_asked(matches: &ArgMatches<'_>, otherwise: u32, most: u32) -> Option<PageOptions>
+    requires { IsInRange 1 most otherwise }
+    ensures value { result ≡ events_asked (rows_of (found_of matches.now)) otherwise most }
+    ensures limits { (o : _) → result ≡ Some o → AreEventsInRange most o }
+{
+    Some(PageOptions {
+        first: number(matches, "first", 0, 4_294_967_295)?,
+        rows: rows(matches, otherwise, most)?,
+        tick_core: number(matches, "tick-core", 1, 1_000_000)?,
+        tick_bank: number(matches, "tick-bank", 1, 1_000_000)?,
+        tick_mail: number(matches, "tick-mail", 1, 1_000_000)?,
+    })
+}
+
+/// What a page is asked.
+fn page_options(matches: &ArgMatches<'_>) -> Option<PageOptions>
+    ensures value { result ≡ page_options_from (rows_of (found_of matches.now)) }
+    ensures limits { (o : _) → result ≡ Some o → IsPageInRange o }
+{
+    events_asked(matches, 4096, MOST_ROWS)
+}
+
+/// What the data of a run are asked: all events where no word says how many.
+fn data_options(matches: &ArgMatches<'_>) -> Option<PageOptions>
+    ensures value { result ≡ data_options_from (rows_of (found_of matches.now)) }
+    ensures limits { (o : _) → result ≡ Some o → IsDataInRange o }
+{
+    events_asked(matches, 4_294_967_295, 4_294_967_295)
+}
+
+/// The mode of this name, with what its own options ask for; a chart's are None where one is out of its range.
+fn view_named(
+    text: &str,
+    chart: Option<ChartOptions>,
+    account: AccountOptions,
+    state: StateOptions,
+    page: PageOptions,
+) -> Option<View>
+    requires chart { (o : _) → chart ≡ Some o → IsChartInRange o }
+    requires page { IsPageInRange page }
+    ensures value { result ≡ view_named chart account state page text.now }
+    ensures limits { (v : _) → result ≡ Some v → IsViewInRange v }
+{
+    match text {
+        "chart" => Some(View::Chart(chart?)),
+        "account" => Some(View::Account(account)),
+        "lists" => Some(View::Lists(account)),
+        "state" => Some(View::State(state)),
+        "page" => Some(View::Page(page)),
+        _ => None,
+    }
+}
+
+/// The mode of this name, in which the rows are at most those of a page.
+fn view_of_rows(
+    matches: &ArgMatches<'_>,
+    columns: Columns,
+    account: AccountOptions,
+    state: StateOptions,
+    text: &str,
+) -> Option<View>
+    ensures value { result ≡ view_of_rows (rows_of (found_of matches.now)) columns account state text.now }
+    ensures limits { (v : _) → result ≡ Some v → IsViewInRange v }
+{
+    let page = page_options(matches)?;
+    let chart = chart_options(matches, columns);
+    view_named(text, chart, account, state, page)
+}
+
+/// The mode of this name, with what the words ask of it.
+fn view_by_mode(
+    matches: &ArgMatches<'_>,
+    columns: Columns,
+    account: AccountOptions,
+    state: StateOptions,
+    all: PageOptions,
+    text: &str,
+) -> Option<View>
+    requires all { IsDataInRange all }
+    ensures value { result ≡ view_by_mode (rows_of (found_of matches.now)) columns account state all text.now }
+    ensures limits { (v : _) → result ≡ Some v → IsViewInRange v }
+{
+    match text {
+        "data" => Some(View::Data(all)),
+        _ => view_of_rows(matches, columns, account, state, text),
+    }
+}
+
+/// The mode that the words ask for, with what they ask of it. Each option is in its range, also one that the mode leaves unused.
+#[tactic(auto, unfolding(crate::specs::Command::view_from))]
+fn asked_view(matches: &ArgMatches<'_>) -> Option<View>
+    ensures value { result ≡ view_from (rows_of (found_of matches.now)) }
+    ensures limits { (v : _) → result ≡ Some v → IsViewInRange v }
+{
+    let columns = columns(matches)?;
+    let account = account_options(matches)?;
+    let state = state_options(matches)?;
+    let all = data_options(matches)?;
+    let text = text_of(matches, "mode")?;
+    view_by_mode(matches, columns, account, state, all, text)
+}
+
+/// What the arguments ask for. The program's own name isn't among them.
+///
+/// The command has the options `--mode`, `--first`, `--rows`, `--columns`, `--tick-core`, `--tick-bank`, `--tick-mail`, `--by`,
+/// `--form` and `--event`, each with one value, and no other words; `View` has the ranges of the numbers. An option may be written as
+/// `--rows 7` or `--rows=7`, and stands once at most; what isn't given is chart, 0, 1000 (in the mode page 4096, in the mode data all), all,
+/// 1, 10, 5, run, text and 0. A mode leaves the options of other modes unused, but each has to be in its range; that of the rows is the
+/// chart's in the mode chart, that of the data in the mode data, and else the page's.
+///
+/// # Errors
+/// `Usage` if the command doesn't take the words, `Memory` if there is no room to read them.
+#[tactic(auto, unfolding(crate::specs::Command::view_of), using(crate::proofs::Commands::is_free, command_words::proofs::Commands::not_taken))]
+pub fn read_words(alloc: Global, words: &[String]) -> Result<View, WordsFault>
+    ensures taken { IfOk result (λ view. view_of (map string_bytes words.now) ≡ Some view) }
+    ensures limits { IfOk result IsViewInRange }
+    ensures usage { IfErr result (λ fault. fault ≡ Usage → view_of (map string_bytes words.now) ≡ None) }
+{
+    match asked_view(&matches_by(view_command(alloc)?, words)?) {
+        Some(view) => Ok(view),
+        None => Err(WordsFault::Usage),
+    }
+}
