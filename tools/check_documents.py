@@ -15,7 +15,7 @@ of their indented blocks and of the comments in examples/:
 - each crate has a page README.md, or a place in crates/TESTS.md;
 - no line of a table has more than 300 characters, no cell of one more than 40 words, and no page more words than tools/checking/lengths.py says;
 - the toolchain that README.md names is the one that is here, where `rt` is on the path;
-- no prose has a house word of tools/checking/house_words.txt but where it is explained.
+- no prose, and no doc comment of the code, has a house word of tools/checking/house_words.txt but where it is explained.
 The syntax files of tools/editors/ have to have each word of docs/LANGUAGE.md. Each text of examples/ has to be the same as its copy in
 crates/worked_rows/data, which the cases run, each of examples/litmus the same as that of its case in litmus.cases, and the text at the head of
 docs/LANGUAGE.md the same as that of the case language-page.
@@ -30,7 +30,7 @@ import sys
 sys.dont_write_bytecode = True
 sys.path[:0] = [str(pathlib.Path(__file__).resolve().parent / "editors"), str(pathlib.Path(__file__).resolve().parent)]
 from check_syntax import lacking_words  # noqa: E402
-from checking.house import house_words, pages  # noqa: E402
+from checking.house import house_words, pages, sources as code_files  # noqa: E402
 from checking.lengths import too_long  # noqa: E402
 
 tracked = [name for name in subprocess.run(["git", "ls-files"], capture_output=True, text=True).stdout.split("\n") if name]
@@ -170,7 +170,7 @@ if shutil.which("rt"):
         found.append(f"README.md: the toolchain here is {kit}, and it names another")
 found += lacking_words()
 found += too_long(tracked)
-found += [f"{name}:{number}: a house word: {word}; the field says: {field}" for name, number, word, field in house_words(pages())]
+found += [f"{name}:{number}: a house word: {word}; the field says: {field}" for name, number, word, field in house_words([*pages(), *code_files()])]
 for line in found:
     print(line)
 sys.exit(1 if found else 0)
