@@ -8,7 +8,7 @@ ghost use Rattle.explained_answer.specs.Parts.{IsNumber};
 ghost use Rattle.explained_answer.specs.AnswerLines.{IsShownWord, StandWord, NoCount, count_front, all_counts};
 
 use crate::line::Count;
-use dn_base::{MOST_WORDS, Outcome};
+use dn_base::Outcome;
 use message_net::EventKind;
 use region_table::FIRST_DATA_ADDRESS;
 use text_pieces::{behind, field, hexadecimal};

@@ -6,7 +6,7 @@ ghost use Rattle.sentences.specs.Effects.{effect_on, effects_said, effects_behin
 
 use crate::claims::{family_behind, moved_for, moved_to, names_region, token_bytes};
 use crate::sites::{len_of, name_of};
-use dn_base::{MOST_OF_TEXT, MOST_WORDS, Memory, Sequence};
+use dn_base::{MOST_OF_TEXT, Memory, Sequence};
 use region_table::Program;
 use rv_assembler::{Effect, Extent, Reading, Statement, read_line, version_line};
 use src_text::{Line, Token, tokens};
@@ -141,7 +141,7 @@ fn bound_of(bound: i128) -> u32
 {
     if bound < 0 {
         0
-    } else if MOST_WORDS < bound {
+    } else if 65536 < bound {
         65537
     } else {
         bound as u32
@@ -160,7 +160,7 @@ fn between(lo: i128, hi: i128) -> Bounds
 fn moved_between(lo: i64, hi: i64, moved: i128) -> Bounds
     ensures { result ≡ moved_between lo hi moved }
 {
-    if -MOST_WORDS <= moved && moved < 65537 {
+    if -65536 <= moved && moved < 65537 {
         between(moved_to(lo, moved), moved_to(hi, moved))
     } else {
         Bounds { low: 0, high: 0 }

@@ -6,7 +6,7 @@ use crate::examples::{Form, operands_as};
 use crate::findings::{Cause, Finding, Wanted};
 use crate::known::Sort;
 use crate::marks::{push_mark_line, push_part};
-use dn_base::{MOST_WORDS, Memory};
+use dn_base::Memory;
 use text_pieces::{push, push_decimal, push_long, push_signed};
 
 /// What a name is declared as.
@@ -227,7 +227,7 @@ fn plain_cause(cause: Cause) -> &'static [u8]
         Cause::CodeWords =>
             b" makes more than 16384 code words: `li` and `la` give two, and every other instruction one.",
         Cause::Regions =>
-            b" makes more than 256 regions (4096 in version 2), or more than MOST_WORDS data words.",
+            b" makes more than 256 regions (4096 in version 2), or more than 65536 data words.",
         Cause::Locks => b" makes more than 32 locks.",
         Cause::Phases => b" makes more than 64 phases.",
         Cause::Tasks => b" makes more than 64 tasks.",

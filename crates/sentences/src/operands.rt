@@ -9,7 +9,7 @@ use crate::examples::form_for;
 use crate::findings::{Cause, Finding, finding_at};
 use crate::known::token_bytes;
 use crate::marks::part_by;
-use dn_base::{MOST_OF_TEXT, Memory};
+use dn_base::Memory;
 use rv_assembler::{Code, Family, Statement};
 use rv_isa::AluOp;
 use src_text::{Span, Token, TokenKind};
@@ -152,7 +152,7 @@ pub(crate) fn code_out_of_range(tokens: &[Token], code: Code) -> Option<Finding>
 {
     match code {
         Code::Upper { .. } => at_range(0, 1048575, tokens),
-        Code::Jump { target, .. } => Some(at_offset(-MOST_OF_TEXT, 1048574, target)),
+        Code::Jump { target, .. } => Some(at_offset(-1048576, 1048574, target)),
         Code::Branch { target, .. } => Some(at_offset(-4096, 4094, target)),
         Code::OpImm { op, .. } if is_shift(op) => at_range(0, 31, tokens),
         Code::JumpRegister { .. } | Code::Load { .. } | Code::Store { .. } | Code::OpImm { .. } => {
