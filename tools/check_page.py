@@ -11,7 +11,8 @@ lists of sharers, and the counters. It presses each other button that steps, and
 plain instructions, for one word alone, played, by the strip, by addresses and in the presenter's view. It looks whether all that can be
 pressed has a name, whether each text has a contrast of 4.5 in both schemes of colours, and whether an event prints on one sheet. With
 --program the text that `./view --mode state` prints before each of these events is compared too, with the one of the same machine. It is
-outside the gate. With --shot it leaves pictures of the page in the folder, as the list SHOTS has them.
+outside the gate. With --shot it leaves pictures of the page in the folder, as the list SHOTS has them,
+after an event that leaves a stale copy where there is one.
 
 It exits with 0 where nothing differs, 1 otherwise, and 0 with a word of it where no browser is there."""
 import argparse
@@ -85,7 +86,8 @@ def check(browser, folder, path, options):
     print("%s: %d events, %d states with stale copies, %d sentences of lists, %d faults%s" % (
         name, verdict["events"], stale, lists, max(verdict["count"], len(faults)), "".join("; " + bad for bad in faults)), flush=True)
     if options.shot:
-        shots(browser, options.shot, name, address)
+        stale_at = [at for at, pairs in enumerate(wanted["marks"]["states"]) if pairs]
+        shots(browser, options.shot, name, address, stale_at[len(stale_at) // 2] if stale_at else 25)
     differ = differing_states(document, options.first, verdict["events"]) if options.program else []
     if options.program:
         print("%s: %d texts of the mode state differ%s" % (name, len(differ), "".join("; event " + event for event in differ[:20])))
@@ -107,12 +109,12 @@ def looks(browser, folder):
     return sorted(set(faults))
 
 
-def shots(browser, folder, name, address):
+def shots(browser, folder, name, address, event):
     os.makedirs(folder, exist_ok=True)
     for width, height, scale, is_presenter in SHOTS:
         for scheme in ("light", "dark"):
             browser.look(width, height, scale, scheme == "dark")
-            browser.go(address + "#event=25&present=%d" % is_presenter)
+            browser.go(address + "#event=%d&present=%d" % (event, is_presenter))
             view = "-presenter" if is_presenter else ""
             browser.shot(os.path.join(folder, "%s-%dx%d-%d%s-%s.png" % (name, width, height, 100 * scale, view, scheme)))
 
