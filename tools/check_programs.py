@@ -6,11 +6,12 @@ it says how long each part takes.
 It looks that the command words are handed on, that each exit code from 0 to 7 comes out, and 9 for words that aren't UTF-8, that a run goes
 by a pipe into its picture, its account, its states and its page, that all are those of tools/reference.py, that explained answers are those
 of tools/explained.txt, that claims are judged as tools/reference.py judges them, that what all runs of a text have in common is that of
-tools/outcomes.txt and, on made texts, of tools/reference.py, that what other tools get of runs and listings says what the rules say, that
-standard error helps, that the tutorial and the documents on accounts, states and pages show what their commands print, that the numbers of
-accounts, of lists, of answers to exercises and at the heads of examples are those of runs, that every command of the pages runs, that their
-constants are those of the definitions, and that the proved programs are used exactly where they were made of these sources. What a run has
-to write comes from tools/reference.py. It names each check that fails, and ends with a count."""
+tools/outcomes.txt and, on made texts, of tools/reference.py, that the rows of many seeds are those of tools/reference.py and of denovo,
+that what other tools get of runs and listings says what the rules say, that standard error helps, that the tutorial and the documents on
+accounts, states and pages show what their commands print, that the numbers of accounts, of lists, of answers to exercises and at the heads
+of examples are those of runs, that every command of the pages runs, that their constants are those of the definitions, and that the proved
+programs are used exactly where they were made of these sources. What a run has to write comes from tools/reference.py. It names each check
+that fails, and ends with a count."""
 import functools
 import multiprocessing
 import os
@@ -21,7 +22,7 @@ import time
 TOP = pathlib.Path(__file__).resolve().parent.parent
 os.chdir(TOP)
 sys.dont_write_bytecode = True
-from checking import calls, charts, claimed, commands, constants, explained, exported, settled, shown, told  # noqa: E402
+from checking import calls, charts, claimed, commands, constants, explained, exported, settled, shown, swept, told  # noqa: E402
 from checking.counting import KIND, take  # noqa: E402
 
 # Each part runs in a process of its own, as many at once as there are processors: those that take longest begin first.
@@ -54,6 +55,9 @@ PARTS = [functools.partial(shown.states_are_those_of_the_reference, example, wor
     charts.each_mode_has_its_own_options,
     settled.made_texts_have_the_outcomes_of_the_reference,
     settled.cases_have_their_outcomes,
+    swept.tables_are_those_of_the_reference,
+    swept.rows_are_of_what_denovo_prints,
+    swept.texts_and_words_are_refused,
     calls.words_are_handed_on,
     calls.stored_runs,
     calls.every_exit_code_comes,

@@ -43,6 +43,7 @@ somewhere else to come from. It takes texts that assemble and check; it refuses 
                                             the same of claims that follow each other
     tools/reference.py outcomes [--fuel N] < TEXT
                                             what every run of a text has in common, whatever order its locks are granted in
+    tools/reference.py sweep [WORDS] < TEXT what the program sweep has to write, for a text that assembles and checks
     tools/reference.py orders [--fuel N] [--count N] < TEXT
                                             holds what is settled against N random orders of grants (20) on one memory: `settled`, `open`, or
                                             what differs

@@ -49,7 +49,7 @@ def every_exit_code_comes():
         check(f"exit code {status} of {example}", as_the_reference(words, example)[0] == status)
     seeds = [seed for seed in range(1, 20) if reference.answer(["--seed", str(seed)], text_of("crossed-locks").decode())[0] == 5]
     check("exit code 5 of crossed-locks", as_the_reference(["--seed", str(seeds[0])], "crossed-locks")[0] == 5)
-    for name in ("denovo", "view", "referee", "outcomes"):
+    for name in ("denovo", "view", "referee", "outcomes", "sweep"):
         for program in programs(name):
             label = program[0]
             ran = run(program + ["--help"])

@@ -11,6 +11,7 @@ None imports one that stands below it in this list:
     documents, chart, accounts, lists,  the document of a run, and what is shown of one
     state_text, pages
     answers, claims, scripts            the program's answers; claims of other simulators; scripts of events
+    sweep                               the runs of one text by many seeds
     cases, small_examples, command      what looks at stored cases and at runs of small texts; the command
 """
 from .accounts import MEASURES, account
@@ -31,6 +32,7 @@ from .report import STATUS, agree_with_flat, answer_text, count_text, grant_text
 from .scripts import event_line, event_of, play
 from .small_examples import STORE_FIVE, SHARED, STALE, IDLE, ONE_PLACE, PART, COUNTER, CROSSED, TRAP, MARKS, rows
 from .state_text import StateText, state
+from .sweep import checksum, sweep
 from .task import TaskState
 from .texts import Program, Task, Unfit, assemble, statements
 from .ticks import longest, ticks_by, timed, timing
@@ -39,7 +41,7 @@ from .work import work_text
 __all__ = [
     "COUNTER", "CROSSED", "Chart", "IDLE", "KINDS", "LIST_MEASURES", "MARKS", "MEASURES", "Machine", "ONE_PLACE", "PART", "Pcg32", "Program", "ROWS", "SHARED", "STALE",
     "STATUS", "STORE_FIVE", "StateText", "TRAP", "Task", "TaskState", "Unfit", "account", "agree_with_flat", "answer", "answer_text", "assemble", "batch", "claim",
-    "against", "claim_text", "count_text", "decode", "diagnosed", "document", "event_line", "event_of", "expanded", "flat", "grant_text", "instruction_text", "judged",
+    "against", "checksum", "claim_text", "count_text", "decode", "diagnosed", "document", "event_line", "event_of", "expanded", "flat", "grant_text", "instruction_text", "judged",
     "lists", "longest", "opened", "options", "outcome", "outcomes", "outcomes_text", "page", "play", "proved", "read_case", "read_document", "replayed",
     "rows", "run_cases", "run_data", "run_text", "sections", "settled",
-    "state", "state_lines", "statements", "states", "summary", "ticks_by", "timed", "timing", "work_text"]
+    "state", "state_lines", "statements", "states", "summary", "sweep", "ticks_by", "timed", "timing", "work_text"]

@@ -17,6 +17,7 @@ from .report import STATUS, agree_with_flat, outcome, run_text
 from .scripts import event_line, play
 from .small_examples import rows
 from .state_text import state
+from .sweep import sweep
 from .texts import Unfit, assemble
 from .ticks import ticks_by
 from .work import work_text
@@ -65,6 +66,10 @@ def command(words):
     if words[:1] == ["claim"]:
         sys.stdout.buffer.write(claim(words[1:], sys.stdin.buffer.read()))
         return 0
+    if words[:1] == ["sweep"]:
+        status, out = sweep(words[1:], sys.stdin.read())
+        print("".join(line + "\n" for line in out), end="")
+        return status
     if words[:1] in (["outcomes"], ["orders"]):
         fuel = int(dict(zip(words[1::2], words[2::2])).get("--fuel", "32768"))
         program = assemble(sys.stdin.read())

@@ -1,0 +1,5 @@
+pub mod Commands
+pub mod DenovoRows
+pub mod Dots
+pub mod RowLemmas
+pub mod SeedRuns

@@ -1,0 +1,40 @@
+-- The program's answer to options and a text.
+use Rattle.std.specs.Prelude.{◌≡◌, ◌⊎◌, ℕ, List}
+use Rattle.region_table.specs.Program.{ProgramParts}
+use Rattle.run_report.specs.Texts.{HasChecked, IsUnfit}
+use Rattle.dn_machine.specs.declared.record.RunRecord.{RunRecord}
+use Rattle.program_outside.specs.declared.ends.Output.{Output}
+use Rattle.sweep_top.specs.declared.options.Form.{Form}
+use Rattle.sweep_top.specs.declared.options.Form as form
+use Rattle.sweep_top.specs.declared.options.SweepOptions.{SweepOptions}
+use Rattle.sweep_top.specs.declared.status.SweepStatus.{SweepStatus}
+use Rattle.sweep_top.specs.declared.status.SweepStatus as status
+use Rattle.sweep_top.specs.Runs.{AreRunsOf}
+use Rattle.sweep_top.specs.Table.{runs_table}
+
+-- a status of the program, and all bytes that are to be written
+abbrev pub SweepReply : Type 0
+SweepReply = Output SweepStatus
+
+-- what is printed of the runs of the seeds from the first one on
+abbrev pub sweep_text : Form → ℕ → List RunRecord → List ℕ
+sweep_text form.TheVariants.Csv first runs = runs_table first runs
+
+abbrev pub swept : List ℕ → SweepReply
+swept text = record { status = status.TheVariants.Swept; bytes = text }
+
+-- the program was run by each seed that is asked for, and the runs are printed in the form that is asked for
+pub record IsSweepOf (P : ProgramParts) (o : SweepOptions) (out : SweepReply) : Type 0 where
+  pub runs : List RunRecord
+  pub are : AreRunsOf P o runs
+  pub answer : out ≡ swept (sweep_text o.form o.seeds.first runs)
+
+-- a text that is refused, with the line with which denovo refuses it
+pub record IsSweepRefused (text : List ℕ) (out : SweepReply) : Type 0 where
+  pub line : List ℕ
+  pub why : IsUnfit text line
+  pub answer : out ≡ record { status = status.TheVariants.Refused; bytes = line }
+
+-- the answer to options and a text
+abbrev pub IsSweepAnswer : SweepOptions → List ℕ → SweepReply → Type 0
+IsSweepAnswer o text out = HasChecked text (λ P. IsSweepOf P o out) ⊎ IsSweepRefused text out

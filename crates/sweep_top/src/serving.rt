@@ -1,0 +1,58 @@
+ghost use Rattle.std.specs.Prelude.{map, string_bytes};
+ghost use Rattle.program_outside.specs.Outside.{devices_of};
+ghost use Rattle.program_outside.specs.Serving.{Serves};
+ghost use Rattle.sweep_top.specs.Answers.{IsSweepAnswer};
+ghost use Rattle.sweep_top.specs.Command.{sweep_of, IsSweepInRange};
+ghost use Rattle.sweep_top.specs.Status.{sweep_told};
+
+use crate::answering::{Reply, answer};
+use crate::options::SweepOptions;
+use crate::status::SweepStatus;
+use crate::words::read_words;
+use command_words::WordsFault;
+use dn_base::{Memory, Sink, Source};
+use program_outside::{Answers, Program, serve_words};
+use std::alloc::Global;
+
+/// The program sweep: from seeds and a text to the runs of the text by these seeds.
+pub struct Sweep;
+
+impl Answers for Sweep {
+    type Asked = SweepOptions;
+
+    type Status = SweepStatus;
+
+    ghost can_answer = { IsSweepInRange };
+
+    ghost IsAnswer = { IsSweepAnswer };
+
+    fn answer(alloc: Global, asked: &SweepOptions, text: &[u8]) -> Result<Reply, Memory> {
+        answer(alloc, asked, text)
+    }
+}
+
+impl Program for Sweep {
+    ghost asked_by = { sweep_of };
+
+    fn read_words(alloc: Global, words: &[String]) -> Result<SweepOptions, WordsFault> {
+        read_words(alloc, words)
+    }
+}
+
+/// The whole program except its `main`: answers these arguments and this source, and returns how it ended.
+///
+/// The status is `Usage` if the command doesn't take the words; the source is left alone then. Otherwise the source is read to
+/// its end, or to one byte more than a trace may have, and `answer` gives the answer and its status. The whole answer is made
+/// before anything is written; then it is written and flushed. The status is `ReadFault` or `WriteFault` if the source or the
+/// sink failed, and `Memory` if there wasn't enough memory. Then the sink has taken at most a prefix of the answer, and nothing
+/// if it didn't fail itself.
+pub fn sweep_main<S: Source, K: Sink>(
+    alloc: Global,
+    words: &[String],
+    source: &mut S,
+    sink: &mut K,
+) -> SweepStatus
+    ensures serves { Serves sweep_told IsSweepAnswer (sweep_of (map string_bytes words.now)) (devices_of S.Source K.Sink source.old sink.old) (devices_of S.Source K.Sink source.new sink.new) result }
+{
+    serve_words::<Sweep, S, K>(alloc, words, source, sink)
+}
