@@ -6,12 +6,16 @@
     answer["seen"]            # the final words of the region `seen`, as a list of numbers
     answer.tasks[0].retired   # how each task ended
     answer.grants, answer.counts
+    denovo.outcomes(text)     # what every run of the text has in common
     denovo.chart(text)        # in a notebook: the message chart of the run
+    denovo.Stepper(text)      # a machine that is stepped, event by event
 
 The library is libdenovo.so: the file that the variable DENOVO_LIBRARY names, or the one beside this file, or the one that tools/library
 makes in .quick/library. A text that is refused raises `Refused`, whose message is the explained refusal. What the library promises is proved
 of the bytes that go in and come out; this module only cuts them into lines, and is tested."""
+import collections
 import ctypes
+import json
 import os
 import pathlib
 import re
@@ -43,16 +47,29 @@ def _opened():
 _library = None
 
 
+def _loaded():
+    """The library, which is opened once."""
+    global _library
+    if _library is None:
+        _library = _opened()
+    return _library
+
+
+def _held(code):
+    """Refuses a result that isn't 0."""
+    if code == 8:
+        raise OutOfMemory()
+    if code != 0:
+        raise ValueError(f"the call ended with {code}")
+
+
 def _bytes(text):
     return text.encode() if isinstance(text, str) else bytes(text)
 
 
 def call(program, words, *sources):
-    """What a program (denovo, view, referee or explain) answers to command words and its sources: the exit code and the bytes."""
-    global _library
-    if _library is None:
-        _library = _opened()
-    function = getattr(_library, program + "_answer")
+    """What a program (denovo, view, outcomes, referee or explain) answers to command words and its sources: the exit code and the bytes."""
+    function = getattr(_loaded(), program + "_answer")
     function.restype = ctypes.c_int32
     block = b"".join(str(word).encode() + b"\0" for word in words)
     given = []
@@ -150,6 +167,44 @@ class Answer:
         return f"Answer(outcome={self.outcome!r}, tasks={len(self.tasks)}, grants={len(self.grants)})"
 
 
+Open = collections.namedtuple("Open", "kind phase core lock pc")
+
+
+class Outcomes(Answer):
+    """What every run of a text has in common. If it is `settled`, then `outcome`, `tasks` and the words are those of each run; a word that the
+    order of grants may decide is None, and its address is in `varies`. Else `open` says why it is open: its `kind` is control, held or stuck,
+    with the phase and what the line names of core, lock and pc. Of grants and counts it says nothing."""
+
+    def __init__(self, text, answer):
+        super().__init__(text, answer)
+        self.varies = [int(line.split()[1], 16) for line in self.lines if line.startswith("varies ")]
+        self.open = _why_open(self.lines[0].split())
+        self.settled = self.open is None
+
+    def word(self, index):
+        """The final value of a data word in every run, or None if it may vary."""
+        value = super().word(index)
+        return None if DATA + 4 * index in self.varies else value
+
+    def explained(self):
+        raise TypeError("explain takes the answer of a run")
+
+    def __repr__(self):
+        return f"Outcomes(outcome={self.outcome!r}, varies={len(self.varies)})" if self.settled else repr(self.open)
+
+
+def _why_open(words):
+    """Why the answer is open, by the words of its line; None if it is settled."""
+    if words[0] != "open":
+        return None
+    kind, phase, *rest = words[1:]
+    if kind == "control":
+        return Open(kind, int(phase), int(rest[0]), None, int(rest[1], 16))
+    if kind == "held":
+        return Open(kind, int(phase), int(rest[0]), int(rest[1]), None)
+    return Open(kind, int(phase), None, int(rest[0]), None)
+
+
 class Picture:
     """An SVG picture or an HTML page; a notebook shows it."""
 
@@ -177,6 +232,11 @@ def run(text, **options):
 def check(text):
     """The line of the mode check; `Refused` if the text has a fault or a conflict."""
     return _told("denovo", {"mode": "check"}, text, text=text)[1].decode().strip()
+
+
+def outcomes(text, fuel=None):
+    """What every run of a text has in common, for every order in which the tasks get their locks."""
+    return Outcomes(text, _told("outcomes", {"fuel": fuel}, text, text=text)[1])
 
 
 def prove(text):
@@ -211,15 +271,30 @@ def _rows(answer):
     return [(row[0], ",".join(row[1:-1]), int(row[-1])) for row in rows]
 
 
-def account(text_or_document, by="run", **options):
-    """What a run cost and why: numbers by measure, and by group where `by` isn't "run"."""
-    answer = _told("view", {"mode": "account", "by": by, "form": "csv"}, _document(text_or_document, options))[1]
+def _numbers(mode, text_or_document, by, options):
+    """Numbers of a run by measure, and by group where `by` isn't "run"."""
+    answer = _told("view", {"mode": mode, "by": by, "form": "csv"}, _document(text_or_document, options))[1]
     if by == "run":
         return {measure: number for measure, _, number in _rows(answer)}
     found = {}
     for measure, group, number in _rows(answer):
         found.setdefault(measure, {})[group] = number
     return found
+
+
+def account(text_or_document, by="run", **options):
+    """What a run cost and why: numbers by measure, and by group where `by` (phase, core or region) isn't "run"."""
+    return _numbers("account", text_or_document, by, options)
+
+
+def lists(text_or_document, by="run", **options):
+    """What the run's loads and stores would cost with lists of sharers, beside what they cost here: numbers as those of `account`."""
+    return _numbers("lists", text_or_document, by, options)
+
+
+def data(text_or_document, first=None, rows=None, **options):
+    """The data of a run, event by event, as docs/PAGE_DATA.md has them."""
+    return json.loads(_told("view", {"mode": "data", "first": first, "rows": rows}, _document(text_or_document, options))[1])
 
 
 def state(text_or_document, event=0, **options):
@@ -242,8 +317,141 @@ def page(text_or_document, first=None, rows=None, **options):
     raise OSError("there is no page.html")
 
 
+def events(document):
+    """The events of a trace, in order, as its lines name them: "i 0" is an instruction of core 0."""
+    return _bytes(document).rpartition(b"\nevents ")[2].decode().split("\n")[1:-1]
+
+
+class _Machine(ctypes.Structure):
+    """What the library keeps of a machine: a pointer. ctypes refuses to copy it."""
+    _fields_ = [("at", ctypes.c_void_p)]
+
+
+class _Event(ctypes.Structure):
+    _fields_ = [("kind", ctypes.c_uint32), ("actor", ctypes.c_uint32), ("number", ctypes.c_uint32)]
+
+
+# the lines of a trace, by the kinds of event of include/denovo_step.h
+_LINES = ("i {0}", "e {0} {1}", "a {0}", "h c {0} {1}", "h b {0} {1}", "h k {1}")
+_FORMS = [re.compile(line.replace("{0}", r"(?P<actor>\d+)").replace("{1}", r"(?P<number>\d+)")) for line in _LINES]
+
+
+def _event(line):
+    """The event of a line of a trace."""
+    for kind, form in enumerate(_FORMS):
+        found = form.fullmatch(line)
+        if found:
+            named = {name: int(number) for name, number in found.groupdict().items()}
+            return _Event(kind, **named)
+    raise ValueError(f"{line!r} is no event")
+
+
+class Stepper:
+    """A machine that runs a text, and is stepped event by event.
+
+        stepper = denovo.Stepper(text, banks=1)
+        stepper.enabled            # the enabled events, as lines of a trace: "i 0" is an instruction of core 0
+        stepper.step("i 0")        # makes one of them; ValueError says why another one isn't enabled
+        stepper.word(0)            # the present value of a data word
+        stepper.state              # the state, as text
+        stepper.undo()             # takes the last event back
+        stepper.events             # the events so far
+        stepper.answer()           # the answer, once no event is enabled
+
+    It may begin behind the first events of a run: denovo.Stepper(text, events=denovo.events(denovo.trace(text, seed=7))[:40])."""
+
+    def __init__(self, text, banks=4, sets=64, ways=4, fuel=32768, events=()):
+        self._machine = _Machine()
+        self.text, self.events = _bytes(text), []
+        self._sizes = {"banks": banks, "sets": sets, "ways": ways, "fuel": fuel}
+        self._open(events)
+
+    def _open(self, events):
+        """Opens the machine anew, and makes these events."""
+        numbers = [ctypes.c_uint32(number) for number in self._sizes.values()]
+        code = self._call("open", ctypes.c_char_p(self.text), ctypes.c_size_t(len(self.text)), *numbers)
+        if code == 2:
+            check(self.text)
+        if code == 1:
+            raise Refused("refused usage")
+        _held(code)
+        self.events = []
+        for event in events:
+            self.step(event)
+
+    def _call(self, name, *given, result=ctypes.c_int32):
+        function = getattr(_loaded(), "denovo_" + name)
+        function.restype = result
+        return function(ctypes.byref(self._machine), *given)
+
+    def __del__(self):
+        if self._machine.at:
+            self._call("close", result=None)
+
+    @property
+    def enabled(self):
+        """The enabled events: of each core its instruction, its evictions and its arrival, then the handling of each message."""
+        room = 64
+        while True:
+            found, count = (_Event * room)(), ctypes.c_size_t(0)
+            _held(self._call("enabled", found, ctypes.c_size_t(room), ctypes.byref(count)))
+            if count.value <= room:
+                return [_LINES[event.kind].format(event.actor, event.number) for event in found[:count.value]]
+            room = count.value
+
+    def step(self, event):
+        """Makes an enabled event."""
+        code = self._call("step", ctypes.byref(_event(event)))
+        if code == 3:
+            raise ValueError(self.why_not(event))
+        _held(code)
+        self.events.append(event)
+
+    def undo(self, count=1):
+        """Takes the last events back; it makes the others again."""
+        if not 0 <= count <= len(self.events):
+            raise IndexError(count)
+        self._open(self.events[:len(self.events) - count])
+
+    def word(self, index):
+        """The present value of a data word: that of its pending entry if a core has one, else that at its home or in its owner's entry."""
+        return self._call("word", ctypes.c_uint32(index), result=ctypes.c_uint32)
+
+    def __getitem__(self, name):
+        first, count = regions_of(self.text)[name]
+        return [self.word(first + at) for at in range(count)]
+
+    def _trace(self, events):
+        sizes = " ".join(f"{name} {number}" for name, number in self._sizes.items())
+        lines = "".join(event + "\n" for event in events)
+        return b"denovo-trace 1\n%s\nsource %d\n%s\nevents %d\n%s" % (sizes.encode(), len(self.text), self.text, len(events), lines.encode())
+
+    @property
+    def trace(self):
+        """The trace of the events so far; chart, page and account take it once no event is enabled."""
+        return self._trace(self.events)
+
+    @property
+    def state(self):
+        """The present state, as text."""
+        return state(self.trace, len(self.events))
+
+    def why_not(self, event):
+        """Why an event isn't enabled; None if it is."""
+        told = state(self._trace(self.events + [event]), len(self.events)).split("\n")[1]
+        return None if told == "may come" else told.removeprefix("may not come: ")
+
+    def answer(self):
+        """The answer of the run, once no event is enabled."""
+        return Answer(self.text, _told("denovo", {"mode": "replay"}, self.trace)[1])
+
+
 def referee(claim, mode="judge"):
-    """What the referee says of a claim: whether it agrees, and the lines."""
+    """What the referee says of a claim: whether it agrees, and the lines. The modes are judge, diagnose, settled, answer and least. Of a list of
+    claims it gives a list, by the first three modes; a claim that is refused is the last that is answered."""
+    if isinstance(claim, (list, tuple)):
+        answer = call("referee", _words({"mode": mode, "batch": "on"}), b"".join(map(_bytes, claim)))[1].decode()
+        return [(told.startswith("agrees\n"), told) for told in re.split(r"^claim \d+\n", answer, flags=re.M)[1:]]
     code, answer = _told("referee", {"mode": mode}, claim)
     return code == 0, answer.decode()
 

@@ -17,7 +17,7 @@ MEANT = {"[OPTIONS] ": "", "[--fuel N] ": "--fuel 9 ", "[--mode diagnose] ": "--
 SHORT = {"examples/litmus/*.s": "examples/litmus/f*.s", "--seeds 1..20": "--seeds 1..2", "--sets 1,4,16 --ways 1,2": "--sets 1,4",
          "--y misses --by ways": "--y misses", "readers=1,4,15": "readers=1,4", "seq 60": "seq 3", "--count 100": "--count 2"}
 # commands that aren't run here: one installs a compiler, tools/check_library makes and tries the library
-ELSEWHERE = ("apt-get ", "tools/library", "cc ", "/tmp/seeds ")
+ELSEWHERE = ("apt-get ", "tools/library", "cc ", "/tmp/seeds ", "/tmp/steps ")
 
 
 def commands_of(page):

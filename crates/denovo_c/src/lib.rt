@@ -1,4 +1,4 @@
-//! The four programs as C functions, on one thread: arguments and what a program reads in memory, to its answer and its exit
+//! The five programs as C functions, on one thread: arguments and what a program reads in memory, to its answer and its exit
 //! code. `include/denovo.h` says what a caller owes.
 #![tactic(auto)]
 
@@ -18,12 +18,16 @@ ghost use Rattle.referee_top.specs.Batch.{IsAnswerTo as IsReferred};
 ghost use Rattle.referee_top.specs.Command.{referee_options_of};
 ghost use Rattle.referee_top.specs.Status.{referee_told, referee_code};
 ghost use Rattle.explain_top.specs.Command.{name_in};
+ghost use Rattle.outcomes_top.specs.Answers.{IsOutcomesAnswer};
+ghost use Rattle.outcomes_top.specs.Command.{outcomes_fuel_of};
+ghost use Rattle.outcomes_top.specs.Status.{outcomes_code, outcomes_told};
 ghost use Rattle.denovo_c.specs.Texts.{IsExplainServed};
 
 mod held_text;
 mod served;
 
 use memory_devices::{HeldSink, SliceSource, answer_in_memory, show};
+use outcomes_top::CommonOutcomes;
 use referee_top::Referee;
 use served::{answer_denovo, answer_explain};
 use std::alloc::Global;
@@ -79,6 +83,20 @@ pub extern "C" fn referee_answer(
     ensures { IsHandedOut referee_code (Serves referee_told IsReferred (referee_options_of (block_words words.now)) (before_call source.now)) out.old out.new written.new result }
 {
     answer_in_memory::<Referee>(alloc, words, source, out, written)
+}
+
+/// Answers arguments and a text, as the program `outcomes` does. The parameters are those of `denovo_answer`.
+#[unsafe(no_mangle)]
+pub extern "C" fn outcomes_answer(
+    alloc: Global,
+    words: &[u8],
+    source: &[u8],
+    out: &mut [u8],
+    written: &mut usize,
+) -> i32
+    ensures { IsHandedOut outcomes_code (Serves outcomes_told IsOutcomesAnswer (outcomes_fuel_of (block_words words.now)) (before_call source.now)) out.old out.new written.new result }
+{
+    answer_in_memory::<CommonOutcomes>(alloc, words, source, out, written)
 }
 
 /// Answers arguments, a text and the answer that was printed for it, as the program `explain` does where the words name this
