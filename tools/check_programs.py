@@ -4,7 +4,7 @@
 it says how long each part takes.
 
 It looks that the command words are handed on, that each exit code from 0 to 7 comes out, and 9 for words that aren't UTF-8, that a run goes
-by a pipe into its picture, its account, its states and its page, that all are those of tools/reference.py, that explained answers are those
+by a pipe into its picture, its account, its states, its answer and its page, that all are those of tools/reference.py, that explained answers are those
 of tools/explained.txt, that claims are judged as tools/reference.py judges them, that what all runs of a text have in common is that of
 tools/outcomes.txt and, on made texts, of tools/reference.py, that the rows of many seeds are those of tools/reference.py and of denovo,
 that what other tools get of runs and listings says what the rules say, that standard error helps, that the tutorial and the documents on
@@ -33,6 +33,7 @@ PARTS = [functools.partial(shown.states_are_those_of_the_reference, example, wor
     shown.a_run_without_an_event_has_one_state,
     shown.a_state_has_as_many_mails_as_may_be,
     shown.accounts_are_those_of_the_reference,
+    shown.answers_for_readers_are_those_of_the_reference,
     claimed.claims_of_runs_agree,
     claimed.claims_are_judged,
     claimed.claims_are_diagnosed,

@@ -21,7 +21,7 @@ def a_run_is_drawn_by_a_pipe():
             check(f"{view[0]}: {example}, {rows} rows from event {first}", (ran.returncode, ran.stdout) == (0, wanted))
             check(f"{example}: fewer banks", not used or wanted != reference.Chart(document, first, rows).text().encode())
         document = run(denovo + ["--mode", "trace"], text_of("store-five")).stdout
-        for mode in ("chart", "account", "page", "data"):
+        for mode in ("chart", "account", "answer", "page", "data"):
             ran = run(view + ["--mode", mode], document[:document.rindex(b"\n", 0, -1) + 1].replace(b"\nevents 10\n", b"\nevents 9\n"))
             wanted = (2, b"refused trace incomplete\n")
             check(f"{view[0]} --mode {mode}: a run without its last event isn't seen", (ran.returncode, ran.stdout) == wanted)
@@ -49,12 +49,13 @@ def each_mode_has_its_own_options():
     """A mode leaves the options of others unused; each has to be in its range. The data of a run may have any number of rows."""
     document = run(programs("denovo")[0] + ["--mode", "trace"], text_of("store-five")).stdout
     ranges = (("--rows", "0"), ("--rows", "20001"), ("--columns", "none"), ("--tick-core", "0"), ("--tick-mail", "1000001"), ("--by", "word"),
-              ("--form", "svg"), ("--event", "4294967296"))
+              ("--form", "svg"), ("--event", "4294967296"), ("--base", "8"))
     for view in programs("view"):
-        for mode, other in (("chart", ["--by", "core", "--form", "csv", "--event", "99"]),
+        for mode, other in (("chart", ["--by", "core", "--form", "csv", "--event", "99", "--base", "16"]),
                             ("account", ["--first", "99", "--rows", "7", "--columns", "used", "--tick-bank", "2", "--event", "99"]),
                             ("lists", ["--first", "99", "--rows", "7", "--columns", "used", "--tick-bank", "2", "--event", "99"]),
                             ("state", ["--first", "99", "--rows", "4097", "--columns", "used", "--tick-bank", "2", "--by", "core", "--form", "csv"]),
+                            ("answer", ["--first", "99", "--rows", "20000", "--columns", "used", "--by", "core", "--form", "csv", "--event", "99"]),
                             ("page", ["--columns", "used", "--by", "core", "--form", "csv", "--event", "99"]),
                             ("data", ["--rows", "4294967295", "--columns", "used", "--by", "core", "--form", "csv", "--event", "99"])):
             plain = run([*view, "--mode", mode], document)

@@ -31,9 +31,25 @@ def accounts_are_those_of_the_reference():
     for text in (text_of("conflict"), b"nonsense\n"):
         document = written(reference.document(text.decode(), {"banks": 1, "sets": 1, "ways": 1, "fuel": 1}, []))
         replay = run(denovo + ["--mode", "replay"], document)
-        for mode in ("chart", "account", "lists", "state", "page", "data"):
+        for mode in ("chart", "account", "lists", "state", "answer", "page", "data"):
             ran = run(programs("view")[0] + ["--mode", mode], document)
             check(f"a refused text, in the mode {mode}", (ran.returncode, ran.stdout) == (2, replay.stdout) and replay.returncode == 2, ran.stdout)
+
+
+def answers_for_readers_are_those_of_the_reference():
+    """The answers for readers of the examples that the check accepts, in both bases, whatever the outcome of the run."""
+    denovo, outcomes = programs("denovo")[0], set()
+    for example in sorted(path.stem for path in pathlib.Path("examples").glob("*.s")):
+        document = run(denovo + ["--mode", "trace", "--seed", "1"], text_of(example))
+        if document.returncode == 2:
+            continue
+        outcomes.add(document.returncode)
+        for base in (10, 16):
+            wanted = written(reference.readers_answer(document.stdout, base)[1])
+            for view in programs("view") if example == "signature" else programs("view")[:1]:
+                seen = run(view + ["--mode", "answer", "--base", str(base)], document.stdout)
+                check(f"{view[0]}: the answer of {example} for readers, base {base}", (seen.returncode, seen.stdout) == (0, wanted), seen.returncode)
+    check("answers for readers of runs of each outcome", outcomes == {0, 3, 4, 5}, outcomes)
 
 
 def page_with(view, data):

@@ -8,8 +8,8 @@ None imports one that stands below it in this list:
     task, one_memory, parts, machine    one task; tasks on one memory; cores, banks and keeper; the machine
     prove, ticks, report                the prover of effects; the longest chain; what is written of a run
     outcomes                            what every run of a text has in common
-    documents, chart, accounts, lists,  the document of a run, and what is shown of one
-    state_text, pages
+    documents, readers, chart, accounts the document of a run, and what is shown of one
+    lists, state_text, pages
     answers, claims, scripts            the program's answers; claims of other simulators; scripts of events
     sweep                               the runs of one text by many seeds
     cases, small_examples, command      what looks at stored cases and at runs of small texts; the command
@@ -28,6 +28,7 @@ from .one_memory import flat
 from .outcomes import against, outcomes, outcomes_text
 from .pages import page, run_data, state_lines, states
 from .prove import proved
+from .readers import readers_answer
 from .report import STATUS, agree_with_flat, answer_text, count_text, grant_text, outcome, run_text, summary
 from .scripts import event_line, event_of, play
 from .small_examples import STORE_FIVE, SHARED, STALE, IDLE, ONE_PLACE, PART, COUNTER, CROSSED, TRAP, MARKS, rows
@@ -42,6 +43,6 @@ __all__ = [
     "COUNTER", "CROSSED", "Chart", "IDLE", "KINDS", "LIST_MEASURES", "MARKS", "MEASURES", "Machine", "ONE_PLACE", "PART", "Pcg32", "Program", "ROWS", "SHARED", "STALE",
     "STATUS", "STORE_FIVE", "StateText", "TRAP", "Task", "TaskState", "Unfit", "account", "agree_with_flat", "answer", "answer_text", "assemble", "batch", "claim",
     "against", "checksum", "claim_text", "count_text", "decode", "diagnosed", "document", "event_line", "event_of", "expanded", "flat", "grant_text", "instruction_text", "judged",
-    "lists", "longest", "opened", "options", "outcome", "outcomes", "outcomes_text", "page", "play", "proved", "read_case", "read_document", "replayed",
+    "lists", "longest", "opened", "options", "outcome", "outcomes", "outcomes_text", "page", "play", "proved", "read_case", "read_document", "readers_answer", "replayed",
     "rows", "run_cases", "run_data", "run_text", "sections", "settled",
     "state", "state_lines", "statements", "states", "summary", "sweep", "ticks_by", "timed", "timing", "work_text"]

@@ -13,6 +13,7 @@ from .machine import LEFT_OUT, Machine
 from .marks import marks
 from .outcomes import against, outcomes_text
 from .pages import page, run_data, states
+from .readers import readers_answer
 from .report import STATUS, agree_with_flat, outcome, run_text
 from .scripts import event_line, play
 from .small_examples import rows
@@ -94,6 +95,10 @@ def command(words):
     if words[:1] in (["account"], ["lists"]):
         by, form = words[1:3] + ["run", "csv"][len(words[1:3]):]
         status, out = (account if words[0] == "account" else lists)(sys.stdin.buffer.read(), by, form)
+        print("".join(line + "\n" for line in out), end="")
+        return status
+    if words[:1] == ["readers"]:
+        status, out = readers_answer(sys.stdin.buffer.read(), int((words[1:2] + ["10"])[0]))
         print("".join(line + "\n" for line in out), end="")
         return status
     if words[:1] == ["state"]:

@@ -66,18 +66,29 @@ def read_document(data):
     return "rest" if at < len(data) else (sizes, text, events)
 
 
-def replayed(data):
-    """The exit code and the lines of the mode replay for these bytes; a text that they tell assembles and checks."""
+def replay(data):
+    """The machine after the events of a document, and the text; or, as a string, the line that refuses the bytes. A text that they tell
+    assembles and checks."""
     told = read_document(data)
     if isinstance(told, str):
-        return 2, ["refused trace " + told]
+        return "refused trace " + told
     sizes, text, events = told
-    machine = Machine(assemble(text.decode("utf-8", "replace")), *sizes)
+    text = text.decode("utf-8", "replace")
+    machine = Machine(assemble(text), *sizes)
     for number, event in enumerate(events):
         if not machine.enabled(event):
-            return 2, ["refused trace not-enabled %d" % number]
+            return "refused trace not-enabled %d" % number
         machine.step(event)
     if machine.pick(0)[0] is not None:
-        return 2, ["refused trace incomplete"]
+        return "refused trace incomplete"
+    return machine, text
+
+
+def replayed(data):
+    """The exit code and the lines of the mode replay for these bytes."""
+    run = replay(data)
+    if isinstance(run, str):
+        return 2, [run]
+    machine, _ = run
     agree_with_flat(machine)
     return STATUS[outcome(machine.ending()[0])], run_text(machine)

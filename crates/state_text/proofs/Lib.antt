@@ -4,3 +4,4 @@ pub mod Followed
 pub mod Held
 pub mod Listed
 pub mod Steps
+pub mod UnderRegions

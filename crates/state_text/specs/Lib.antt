@@ -2,8 +2,11 @@ pub mod Because
 pub mod Called
 pub mod Coming
 pub mod Cores
+pub mod ForReaders
 pub mod Holding
+pub mod Named
 pub mod Parts
 pub mod Reached
 pub mod Reasons
 pub mod Shown
+pub mod Words

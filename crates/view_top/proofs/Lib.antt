@@ -1,5 +1,6 @@
 pub mod Commands
 pub mod Counted
+pub mod ForReaders
 pub mod Kept
 pub mod Paged
 pub mod Pictures

@@ -29,6 +29,7 @@ use Rattle.run_chart.specs.declared.drawing.Range.{Range}
 use Rattle.run_chart.specs.Charts.{IsChartOf}
 use Rattle.state_text.specs.declared.answer.StateAnswer.{StateAnswer}
 use Rattle.state_text.specs.Reached.{IsAnswerOf}
+use Rattle.state_text.specs.ForReaders.{answer_for_readers}
 use Rattle.page_data.specs.declared.page.Page.{Page}
 use Rattle.page_data.specs.Page.{IsPageOf}
 use Rattle.page_data.specs.declared.run_data.RunData.{RunData}
@@ -43,6 +44,7 @@ use Rattle.view_top.specs.declared.options.View.TheVariants as view
 use Rattle.view_top.specs.declared.options.ChartOptions.{ChartOptions}
 use Rattle.view_top.specs.declared.options.AccountOptions.{AccountOptions}
 use Rattle.view_top.specs.declared.options.StateOptions.{StateOptions}
+use Rattle.view_top.specs.declared.options.AnswerOptions.{AnswerOptions}
 use Rattle.view_top.specs.declared.options.PageOptions.{PageOptions}
 use Rattle.view_top.specs.declared.status.ViewStatus.{ViewStatus}
 use Rattle.view_top.specs.declared.status.ViewStatus.TheVariants as status
@@ -164,6 +166,12 @@ IsStateShown P t o out = IsShown P t o out ⊎ IsBehindEnd t o out
 abbrev pub IsWithoutProgram : List ℕ → List ℕ → Type 0
 IsWithoutProgram document line = IsNoDocument document line ⊎ HasTrace document (λ t. IsUnfit t.text line)
 
+-- ---- an answer
+
+-- the output is the run's answer for readers, with numbers in the base that the options ask for: these bytes and no others
+abbrev pub IsForReaders : Located → List ℕ → AnswerOptions → RunRecord → Output → Type 0
+IsForReaders L text o r out = out ≡ made (answer_for_readers o.base text L r.ending r.grants)
+
 -- ---- a page
 
 -- the ticks that options give to the kinds of event, as a chart's do
@@ -232,6 +240,7 @@ view_made (view.Chart o) document out = HasKeptRun document (λ L t r. IsDrawn L
 view_made (view.Account o) document out = HasKeptRun document (λ L t r. IsAccount L.program t.shape o r out)
 view_made (view.Lists o) document out = HasKeptRun document (λ L t r. IsBeside L.program t.shape o r out)
 view_made (view.State o) document out = HasTrace document (λ t. HasChecked t.text (λ P. IsStateShown P t o out))
+view_made (view.Answer o) document out = HasKeptRun document (λ L t r. IsForReaders L t.text o r out)
 view_made (view.Page o) document out = HasKeptRun document (λ L t r. IsPaged L.program t.shape t.text o r out)
 view_made (view.Data o) document out = HasKeptRun document (λ L t r. IsToldAsData L.program t.shape t.text o r out)
 
@@ -242,6 +251,7 @@ view_refused (view.Chart o) document line = IsRefusedDocument document line
 view_refused (view.Account o) document line = IsRefusedDocument document line
 view_refused (view.Lists o) document line = IsRefusedDocument document line
 view_refused (view.State o) document line = IsWithoutProgram document line
+view_refused (view.Answer o) document line = IsRefusedDocument document line
 view_refused (view.Page o) document line = IsRefusedDocument document line
 view_refused (view.Data o) document line = IsRefusedDocument document line
 

@@ -9,20 +9,23 @@ use Rattle.run_account.specs.declared.form.Form.{Form}
 use Rattle.run_account.specs.declared.form.Form as form
 use Rattle.run_chart.specs.declared.finishing.Columns.{Columns}
 use Rattle.run_chart.specs.declared.finishing.Columns as columns
+use Rattle.state_text.specs.declared.base.Base.{Base}
+use Rattle.state_text.specs.declared.base.Base as base
 use Rattle.command_words.specs.Words.{bare, faults_in, number_in, number_rule, open_number_rule, text_rule, values_in, where_taken}
 use Rattle.view_top.specs.declared.options.View.{View}
 use Rattle.view_top.specs.declared.options.View as view
 use Rattle.view_top.specs.declared.options.ChartOptions.{ChartOptions}
 use Rattle.view_top.specs.declared.options.AccountOptions.{AccountOptions}
 use Rattle.view_top.specs.declared.options.StateOptions.{StateOptions}
+use Rattle.view_top.specs.declared.options.AnswerOptions.{AnswerOptions}
 use Rattle.view_top.specs.declared.options.PageOptions.{PageOptions}
 
 -- ---- the command
 
--- the command `view` with its ten options; how many rows there are by default depends on the mode
+-- the command `view` with its eleven options; how many rows there are by default depends on the mode
 unfoldable pub view_command : App
 view_command =
-    with_rule (with_rule (with_rule (with_rule (with_rule (with_rule (with_rule (with_rule (with_rule (with_rule (bare (new_app (codes "view")))
+    with_rule (with_rule (with_rule (with_rule (with_rule (with_rule (with_rule (with_rule (with_rule (with_rule (with_rule (bare (new_app (codes "view")))
     (text_rule (codes "mode") (codes "chart")))
     (number_rule (codes "first") (codes "0")))
     (open_number_rule (codes "rows")))
@@ -32,7 +35,8 @@ view_command =
     (number_rule (codes "tick-mail") (codes "5")))
     (text_rule (codes "by") (codes "run")))
     (text_rule (codes "form") (codes "text")))
-    (number_rule (codes "event") (codes "0"))
+    (number_rule (codes "event") (codes "0")))
+    (text_rule (codes "base") (codes "10"))
 
 -- ---- what the values of its options ask for
 
@@ -107,6 +111,23 @@ state_options_from rows =
     Some (record { event = event }))
     (number_in rows (codes "event") 0 4294967295)
 
+-- the base that a text names
+abbrev pub base_named : Text → Option Base
+base_named text =
+    if bytes_eq text (codes "10") then Some base.TheVariants.Decimal
+    else if bytes_eq text (codes "16") then Some base.TheVariants.Hexadecimal
+    else None
+
+abbrev pub base_in : List Row → Option Base
+base_in rows = option_and_then base_named (first_of (codes "base") rows)
+
+-- what an answer for readers is asked
+unfoldable pub answer_options_from : List Row → Option AnswerOptions
+answer_options_from rows =
+    option_and_then (λ (b : Base).
+    Some (record { base = b }))
+    (base_in rows)
+
 -- what a page is asked that has at most so many events, where each number is in its range; `otherwise` is the default of its events
 unfoldable pub events_asked : List Row → ℕ → ℕ → Option PageOptions
 events_asked rows otherwise most =
@@ -131,24 +152,25 @@ abbrev pub data_options_from : List Row → Option PageOptions
 data_options_from rows = events_asked rows 4294967295 4294967295
 
 -- the mode that a text names, if it isn't that of the data, with what its own options ask for
-abbrev pub view_named : Option ChartOptions → AccountOptions → StateOptions → PageOptions → Text → Option View
-view_named chart account state page text =
+abbrev pub view_named : Option ChartOptions → AccountOptions → StateOptions → AnswerOptions → PageOptions → Text → Option View
+view_named chart account state answer page text =
     if bytes_eq text (codes "chart") then option_map view.TheVariants.Chart chart
     else if bytes_eq text (codes "account") then Some (view.TheVariants.Account account)
     else if bytes_eq text (codes "lists") then Some (view.TheVariants.Lists account)
     else if bytes_eq text (codes "state") then Some (view.TheVariants.State state)
+    else if bytes_eq text (codes "answer") then Some (view.TheVariants.Answer answer)
     else if bytes_eq text (codes "page") then Some (view.TheVariants.Page page)
     else None
 
 -- a mode in which the rows are at most those of a page
-abbrev pub view_of_rows : List Row → Columns → AccountOptions → StateOptions → Text → Option View
-view_of_rows rows shown account state text =
-    option_and_then (λ (page : PageOptions). view_named (chart_options_from rows shown) account state page text) (page_options_from rows)
+abbrev pub view_of_rows : List Row → Columns → AccountOptions → StateOptions → AnswerOptions → Text → Option View
+view_of_rows rows shown account state answer text =
+    option_and_then (λ (page : PageOptions). view_named (chart_options_from rows shown) account state answer page text) (page_options_from rows)
 
 -- the mode that a text names: the data of a run, or one in which the rows have a limit
-abbrev pub view_by_mode : List Row → Columns → AccountOptions → StateOptions → PageOptions → Text → Option View
-view_by_mode rows shown account state all text =
-    if bytes_eq text (codes "data") then Some (view.TheVariants.Data all) else view_of_rows rows shown account state text
+abbrev pub view_by_mode : List Row → Columns → AccountOptions → StateOptions → AnswerOptions → PageOptions → Text → Option View
+view_by_mode rows shown account state answer all text =
+    if bytes_eq text (codes "data") then Some (view.TheVariants.Data all) else view_of_rows rows shown account state answer text
 
 -- what the values of all options ask for: each is in its range, also where the mode leaves it unused; the rows of a chart are fewer than those
 -- of a page, and those of data have no limit
@@ -157,10 +179,12 @@ view_from rows =
     option_and_then (λ (shown : Columns).
     option_and_then (λ (account : AccountOptions).
     option_and_then (λ (state : StateOptions).
+    option_and_then (λ (answer : AnswerOptions).
     option_and_then (λ (all : PageOptions).
-    option_and_then (view_by_mode rows shown account state all)
+    option_and_then (view_by_mode rows shown account state answer all)
     (first_of (codes "mode") rows))
     (data_options_from rows))
+    (answer_options_from rows))
     (state_options_from rows))
     (account_options_from rows))
     (columns_in rows)
@@ -191,11 +215,12 @@ IsPageInRange o = AreEventsInRange 20000 o
 abbrev pub IsDataInRange : PageOptions → Type 0
 IsDataInRange o = AreEventsInRange 4294967295 o
 
--- each number of a mode is; an account, lists and a state have none that is limited
+-- each number of a mode is; an account, lists, a state and an answer have none that is limited
 abbrev pub IsViewInRange : View → Type 0
 IsViewInRange (view.TheVariants.Chart o) = IsChartInRange o
 IsViewInRange (view.TheVariants.Account o) = Unit {0}
 IsViewInRange (view.TheVariants.Lists o) = Unit {0}
 IsViewInRange (view.TheVariants.State o) = Unit {0}
+IsViewInRange (view.TheVariants.Answer o) = Unit {0}
 IsViewInRange (view.TheVariants.Page o) = IsPageInRange o
 IsViewInRange (view.TheVariants.Data o) = IsDataInRange o

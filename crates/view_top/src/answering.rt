@@ -5,6 +5,7 @@ ghost use Rattle.view_top.specs.Command.{IsViewInRange};
 
 use crate::View;
 use crate::accounts::account_document;
+use crate::answers::answer_document;
 use crate::charts::draw_document;
 use crate::lists::lists_document;
 use crate::pages::page_document;
@@ -55,6 +56,7 @@ fn view_made(alloc: Global, view: &View, document: &[u8]) -> Result<Output, Stop
         View::Account(options) => account_document(alloc, options, document),
         View::Lists(options) => lists_document(alloc, options, document),
         View::State(options) => show_state(alloc, options, document),
+        View::Answer(options) => answer_document(alloc, options, document),
         View::Page(options) => page_document(alloc, options, document),
         View::Data(options) => data_document(alloc, options, document),
     }
@@ -73,6 +75,9 @@ fn view_made(alloc: Global, view: &View, document: &[u8]) -> Result<Output, Stop
 /// mode also takes documents whose events are no complete run. If one of the events before the asked one is not enabled, the
 /// state is the one before that event, with the status `Unreached`. If the trace has fewer events than the number that is asked
 /// for, the words are refused.
+///
+/// In the mode answer it is the answer of the run for readers: tasks, regions and locks by their names, with numbers in the base that the
+/// options ask for.
 ///
 /// In the mode page it is the data of the page of the run, as one JSON text: without a title, with the events that the options ask for and
 /// the run's longest chain by the options' ticks. Where the page's first event would be after the run's last one, the words are refused.

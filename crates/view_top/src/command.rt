@@ -7,7 +7,7 @@ use command_words::{OptionValue, bare_command, with_options};
 use std::alloc::{AllocError, Global};
 
 /// The options of the command, with their defaults. How many rows there are by default depends on the mode.
-const OPTIONS: [(&str, OptionValue<'_>); 10] = [
+const OPTIONS: [(&str, OptionValue<'_>); 11] = [
     ("mode", OptionValue::Text("chart")),
     ("first", OptionValue::Number("0")),
     ("rows", OptionValue::OpenNumber),
@@ -18,9 +18,10 @@ const OPTIONS: [(&str, OptionValue<'_>); 10] = [
     ("by", OptionValue::Text("run")),
     ("form", OptionValue::Text("text")),
     ("event", OptionValue::Number("0")),
+    ("base", OptionValue::Text("10")),
 ];
 
-/// The command with its ten options.
+/// The command with its eleven options.
 #[tactic(auto, unfolding(crate::specs::Command::view_command))]
 pub(crate) fn view_command<'a>(alloc: Global) -> Result<Command<'a>, AllocError>
     ensures { IfOk result (λ made. app_of made ≡ view_command) }

@@ -3,6 +3,7 @@
 
 mod accounts;
 mod answering;
+mod answers;
 mod charts;
 mod command;
 mod documents;
@@ -20,8 +21,8 @@ mod timings;
 
 pub use answering::{Output, answer};
 pub use command_words::WordsFault;
-pub use laws::each_line_gives_its_code_word;
-pub use options::{AccountOptions, ChartOptions, PageOptions, StateOptions, View};
+pub use laws::{an_answer_has_each_data_word_once, each_line_gives_its_code_word};
+pub use options::{AccountOptions, AnswerOptions, ChartOptions, PageOptions, StateOptions, View};
 pub use parsing::read_words;
 pub use program::view_program;
 pub use serving::{Viewer, view_main};

@@ -1,5 +1,6 @@
 use run_account::{Form, Grouping};
 use run_chart::Columns;
+use state_text::Base;
 
 /// What is made of the trace, and with which options. Each mode has its own options, and ignores those of the other modes.
 #[derive(Clone, Copy)]
@@ -12,6 +13,8 @@ pub enum View {
     Lists(AccountOptions),
     /// A state of the run, and what is enabled there.
     State(StateOptions),
+    /// The answer of the run for readers: tasks, regions and locks by their names.
+    Answer(AnswerOptions),
     /// The data of the page that shows the run in a browser, as one JSON text.
     Page(PageOptions),
     /// The data of the run for other programs, as one JSON text.
@@ -50,6 +53,13 @@ pub struct StateOptions {
     /// The number of the event, from 0, before which the state is. The number of all events asks for the state after the last
     /// one.
     pub event: u32,
+}
+
+/// What the words ask of an answer for readers.
+#[derive(Clone, Copy)]
+pub struct AnswerOptions {
+    /// In which base its data words are written.
+    pub base: Base,
 }
 
 /// What the words ask of a page, and of the data of a run.

@@ -2,15 +2,18 @@ ghost use Rattle.std.specs.Prelude.{◌≡◌, ◌≤◌, IfOk, IfErr, map, stri
 ghost use Rattle.std.specs.Int.{IsInRange};
 ghost use Rattle.clap.specs.Words.{rows_of, found_of, first_of};
 ghost use Rattle.command_words.specs.declared.words.WordsFault.TheVariants.{Usage};
-ghost use Rattle.view_top.specs.Command.{account_options_from, chart_options_from, columns_in, columns_named, form_in, form_named, grouping_in, grouping_named, data_options_from, events_asked, view_by_mode, page_options_from, rows_in, state_options_from, view_from, view_named, view_of, view_of_rows, AreEventsInRange, IsChartInRange, IsDataInRange, IsPageInRange, IsViewInRange};
+ghost use Rattle.view_top.specs.Command.{account_options_from, answer_options_from, base_in, base_named, chart_options_from, columns_in, columns_named, form_in, form_named, grouping_in, grouping_named, data_options_from, events_asked, view_by_mode, page_options_from, rows_in, state_options_from, view_from, view_named, view_of, view_of_rows, AreEventsInRange, IsChartInRange, IsDataInRange, IsPageInRange, IsViewInRange};
 
 use crate::command::view_command;
-use crate::options::{AccountOptions, ChartOptions, PageOptions, StateOptions, View};
+use crate::options::{
+    AccountOptions, AnswerOptions, ChartOptions, PageOptions, StateOptions, View,
+};
 use clap::ArgMatches;
 use command_words::{WordsFault, matches_by, number};
 use page_data::MOST_ROWS;
 use run_account::{Form, Grouping};
 use run_chart::Columns;
+use state_text::Base;
 use std::alloc::Global;
 
 /// The text of an option.
@@ -134,6 +137,37 @@ fn state_options(matches: &ArgMatches<'_>) -> Option<StateOptions>
     })
 }
 
+/// The base of this name.
+fn base_named(text: &str) -> Option<Base>
+    ensures { result ≡ base_named text.now }
+{
+    match text {
+        "10" => Some(Base::Decimal),
+        "16" => Some(Base::Hexadecimal),
+        _ => None,
+    }
+}
+
+/// The base that the words ask for.
+fn base(matches: &ArgMatches<'_>) -> Option<Base>
+    ensures { result ≡ base_in (rows_of (found_of matches.now)) }
+{
+    match text_of(matches, "base") {
+        Some(text) => base_named(text),
+        None => None,
+    }
+}
+
+/// What an answer for readers is asked.
+#[tactic(auto, unfolding(crate::specs::Command::answer_options_from))]
+fn answer_options(matches: &ArgMatches<'_>) -> Option<AnswerOptions>
+    ensures { result ≡ answer_options_from (rows_of (found_of matches.now)) }
+{
+    Some(AnswerOptions {
+        base: base(matches)?,
+    })
+}
+
 /// What a page is asked that has at most `most` events, where each number is in its range; `otherwise` where no word says how many.
 #[tactic(auto, unfolding(crate::specs::Command::events_asked))]
 fn events_asked(matches: &ArgMatches<'_>, otherwise: u32, most: u32) -> Option<PageOptions>
@@ -172,11 +206,12 @@ fn view_named(
     chart: Option<ChartOptions>,
     account: AccountOptions,
     state: StateOptions,
+    answer: AnswerOptions,
     page: PageOptions,
 ) -> Option<View>
     requires chart { (o : _) → chart ≡ Some o → IsChartInRange o }
     requires page { IsPageInRange page }
-    ensures value { result ≡ view_named chart account state page text.now }
+    ensures value { result ≡ view_named chart account state answer page text.now }
     ensures limits { (v : _) → result ≡ Some v → IsViewInRange v }
 {
     match text {
@@ -184,6 +219,7 @@ fn view_named(
         "account" => Some(View::Account(account)),
         "lists" => Some(View::Lists(account)),
         "state" => Some(View::State(state)),
+        "answer" => Some(View::Answer(answer)),
         "page" => Some(View::Page(page)),
         _ => None,
     }
@@ -195,14 +231,15 @@ fn view_of_rows(
     columns: Columns,
     account: AccountOptions,
     state: StateOptions,
+    answer: AnswerOptions,
     text: &str,
 ) -> Option<View>
-    ensures value { result ≡ view_of_rows (rows_of (found_of matches.now)) columns account state text.now }
+    ensures value { result ≡ view_of_rows (rows_of (found_of matches.now)) columns account state answer text.now }
     ensures limits { (v : _) → result ≡ Some v → IsViewInRange v }
 {
     let page = page_options(matches)?;
     let chart = chart_options(matches, columns);
-    view_named(text, chart, account, state, page)
+    view_named(text, chart, account, state, answer, page)
 }
 
 /// The mode of this name, with what the words ask of it.
@@ -211,16 +248,17 @@ fn view_by_mode(
     columns: Columns,
     account: AccountOptions,
     state: StateOptions,
+    answer: AnswerOptions,
     all: PageOptions,
     text: &str,
 ) -> Option<View>
     requires all { IsDataInRange all }
-    ensures value { result ≡ view_by_mode (rows_of (found_of matches.now)) columns account state all text.now }
+    ensures value { result ≡ view_by_mode (rows_of (found_of matches.now)) columns account state answer all text.now }
     ensures limits { (v : _) → result ≡ Some v → IsViewInRange v }
 {
     match text {
         "data" => Some(View::Data(all)),
-        _ => view_of_rows(matches, columns, account, state, text),
+        _ => view_of_rows(matches, columns, account, state, answer, text),
     }
 }
 
@@ -233,17 +271,18 @@ fn asked_view(matches: &ArgMatches<'_>) -> Option<View>
     let columns = columns(matches)?;
     let account = account_options(matches)?;
     let state = state_options(matches)?;
+    let answer = answer_options(matches)?;
     let all = data_options(matches)?;
     let text = text_of(matches, "mode")?;
-    view_by_mode(matches, columns, account, state, all, text)
+    view_by_mode(matches, columns, account, state, answer, all, text)
 }
 
 /// What the arguments ask for. The program's own name isn't among them.
 ///
 /// The command has the options `--mode`, `--first`, `--rows`, `--columns`, `--tick-core`, `--tick-bank`, `--tick-mail`, `--by`,
-/// `--form` and `--event`, each with one value, and no other words; `View` has the ranges of the numbers. An option may be written as
-/// `--rows 7` or `--rows=7`, and stands once at most; what isn't given is chart, 0, 1000 (in the mode page 4096, in the mode data all), all,
-/// 1, 10, 5, run, text and 0. A mode leaves the options of other modes unused, but each has to be in its range; that of the rows is the
+/// `--form`, `--event` and `--base`, each with one value, and no other words; `View` has the ranges of the numbers. An option may be
+/// written as `--rows 7` or `--rows=7`, and stands once at most; what isn't given is chart, 0, 1000 (in the mode page 4096, in the mode data
+/// all), all, 1, 10, 5, run, text, 0 and 10. A mode leaves the options of other modes unused, but each has to be in its range; that of the rows is the
 /// chart's in the mode chart, that of the data in the mode data, and else the page's.
 ///
 /// # Errors

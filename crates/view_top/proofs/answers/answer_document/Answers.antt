@@ -1,0 +1,10 @@
+use Rattle.region_table.specs.Program.{ProgramParts}
+use Rattle.view_top.specs.declared.documents.KeptRun.{KeptRun}
+use Rattle.view_top.specs.Answers.{located, IsForReaders}
+use Rattle.view_top.proofs.Kept.{holds-of}
+use Rattle.view_top.proofs.answers.answer_document.Goals as goal
+
+pub returns-clause-made : goal.returns-clause-made
+returns-clause-made c =
+    holds-of c.args.document.now c.in_ok-kept.kept (λ (P : ProgramParts) (k : KeptRun). IsForReaders (located P k.text) k.text c.args.options.now k.run c.in_ok-written.field-0) c.in_ok-kept.ensures.kept
+    c.in_ok-written.ensures
