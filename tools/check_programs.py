@@ -5,7 +5,7 @@ it says how long each part takes.
 
 It looks that the command words are handed on, that each exit code from 0 to 7 comes out, and 9 for words that aren't UTF-8, that a run goes
 by a pipe into its picture, its account, its states, its answer and its page, that all are those of tools/reference.py, that explained answers are those
-of tools/explained.txt, that claims are judged as tools/reference.py judges them, that what all runs of a text have in common is that of
+of tools/explained.txt and tools/verdicts.txt, that claims are judged as tools/reference.py judges them, that what all runs of a text have in common is that of
 tools/outcomes.txt and, on made texts, of tools/reference.py, that the rows of many seeds are those of tools/reference.py and of denovo,
 that what other tools get of runs and listings says what the rules say, that standard error helps, that the tutorial and the documents on
 accounts, states and pages show what their commands print, that the numbers of accounts, of lists, of answers to exercises and at the heads
@@ -42,6 +42,7 @@ PARTS = [functools.partial(shown.states_are_those_of_the_reference, example, wor
     claimed.a_machine_without_a_rule_is_found,
     claimed.claims_are_refused,
     explained.answers_are_explained,
+    explained.verdicts_are_explained,
     explained.remedies_lead_on,
     explained.texts_are_refused_alike,
     explained.answers_of_other_texts_are_refused,

@@ -1,4 +1,5 @@
-"""Answers that `explain` explains, refuses or takes: the cases of tools/explained.txt, and answers of other texts."""
+"""Answers that `explain` explains, refuses or takes: the cases of tools/explained.txt, the verdicts of tools/verdicts.txt, and answers of
+other texts."""
 import os
 import pathlib
 import re
@@ -51,6 +52,45 @@ def answers_are_explained():
     line = "./denovo < examples/trap.s | ./explain examples/trap.s"
     ran = run(["bash", "-c", line])
     check(line, ran.returncode == 0 and b"\n  18 |  sw t1, 8(t0)\n" in ran.stdout, ran.stdout)
+
+
+def verdict_cases():
+    """The cases of tools/verdicts.txt: for each its name, its text, the claim from its line `grants` on, and all that explain has to write."""
+    for case in re.split(r"^==== ", pathlib.Path("tools/verdicts.txt").read_text(), flags=re.M)[1:]:
+        name, rest = case.split("\n", 1)
+        text, claim, output = re.split(r"^----\n", rest, flags=re.M)
+        yield name, text, claim, output
+
+
+def verdicts_are_explained():
+    """Each case: the lines that aren't indented are the referee's diagnosis of the claim, and explain puts the others behind them. The first
+    lines are explained too where no diagnosis follows. A line that quotes another text, or is of no form, is refused."""
+    with tempfile.TemporaryDirectory() as room:
+        file = pathlib.Path(room, "a text.s")
+        explain = programs("explain")[0] + [str(file)]
+        for name, text, rest, output in verdict_cases():
+            claim = f"denovo-claim 1\nfuel 32768\nsource {len(text)}\n{text}\n{rest}".encode()
+            lines = output.splitlines(True)
+            answer = "".join(line for line in lines if not line.startswith("  ")).encode()
+            told = reference.diagnosed(claim)[1]
+            check(f"{name}, by the reference", "".join(line + "\n" for line in told).encode() == answer, told)
+            ran = run(programs("referee")[0] + ["--mode", "diagnose"], claim)
+            check(f"the diagnosis of {name}", ran.stdout == answer, ran.stdout)
+            file.write_text(text)
+            ran = run(explain, answer)
+            check(f"the diagnosis of {name}, explained", (ran.returncode, ran.stdout) == (0, output.encode()), ran.stdout)
+            ran = run(explain, lines[0].encode())
+            check(f"the verdict on {name}, explained", (ran.returncode, ran.stdout) == (0, "".join(lines[:2]).encode()), ran.stdout)
+            quoting = [number for number, line in enumerate(answer.splitlines(), 1) if line.startswith(b"at ")]
+            if quoting:
+                file.write_text("# one line more\n" + text)
+                ran = run(explain, answer)
+                check(f"{name}, of another text", (ran.returncode, ran.stdout) == (2, b"refused answer %d\n" % quoting[0]), ran.stdout)
+                file.write_text(text)
+        for answer, number in ((b"differs grants\n", 1), (b"differs grants 01234567890\n", 1), (b"differs load 0 0 0 word 0 value 0x1\n", 1),
+                               (b"stored never\n", 1), (b"agrees\nbecause\n", 2), (b"differs tasks\ntasks 2\ntask 0\n", 3)):
+            ran = run(explain, answer)
+            check(f"{answer} is no verdict", (ran.returncode, ran.stdout) == (2, b"refused answer %d\n" % number), ran.stdout)
 
 
 def remedies_lead_on():

@@ -52,10 +52,10 @@ byte-self x = eq-eqb x x refl
 pub byte-exact : IsExact nat_eq
 byte-exact x y is = eqb-true x y is
 
-load-self : IsSelf is_same_load
+pub load-self : IsSelf is_same_load
 load-self s = ap (λ (b : Bool). b && (s.value == s.value)) (eq-eqb s.word.0 s.word.0 refl) ∙ eq-eqb s.value s.value refl
 
-load-exact : IsExact is_same_load
+pub load-exact : IsExact is_same_load
 load-exact s t is =
     let parts = both-true (s.word.0 == t.word.0) (s.value == t.value) is in
     let word = eqb-true s.word.0 t.word.0 parts.0 in

@@ -12,7 +12,7 @@ use Rattle.flat_machine.specs.declared.ending.TaskLoads.{TaskLoads}
 use Rattle.claims.specs.Diagnosis.{is_wrong_load, earliest_wrong, store_to, last_store}
 use Rattle.claims.specs.DiagnosisLaws.{IsEarliest, IsLastStore, StoresElsewhere}
 
-some-action : FlatAction
+pub some-action : FlatAction
 some-action = Takes (record { phase = record { 0 = 0 }; core = record { 0 = 0 }; lock = record { 0 = 0 } })
 
 pub earliest-first : (claimed : List TaskLoads) (actions : List FlatAction) (place : ℕ) → earliest_wrong claimed actions ≡ Some place → IsEarliest claimed actions place

@@ -2,9 +2,12 @@ pub mod Agreement
 pub mod Diagnoses
 pub mod DiagnosisLemmas
 pub mod Forms
+pub mod FirstLoads
 pub mod Found
 pub mod Fronts
+pub mod GrantReasons
 pub mod LoadRows
+pub mod LoadsMade
 pub mod Parts
 pub mod Places
 pub mod Single

@@ -28,7 +28,11 @@ pub use claim::{Claim, ClaimFault, ClaimTextError, GrantOrder, Question};
 pub use claim_writing::claim_text;
 pub use diagnosing::diagnose;
 pub use diagnosis::{Diagnosis, TaskName, WrongLoad};
-pub use diagnosis_laws::{no_store_comes_between, the_earliest_wrong_load_is_the_first};
+pub use diagnosis_laws::{
+    a_grant_is_at_fault_where_it_is_not_legal, a_load_is_made_by_the_load_of_its_line,
+    no_store_comes_between, the_earliest_wrong_load_is_the_first,
+    the_named_load_is_the_first_that_differs, the_reason_against_a_grant_is_true,
+};
 pub use diagnosis_writing::push_diagnosis;
 pub use document_laws::{a_document_is_of_one_claim, bytes_have_one_fault};
 pub use judge_laws::{

@@ -1,8 +1,8 @@
 ghost use Rattle.std.specs.Prelude.{◌≡◌, ◌++◌, OnOk, IfOk};
-ghost use Rattle.explain_top.specs.Answers.{IsOutput, refused_line, output_of};
+ghost use Rattle.explain_top.specs.Answers.{IsEither, IsOutput, refused_line, output_of};
 
 use dn_base::{MOST_OF_DOCUMENT, Memory, Sequence, Status};
-use explained_answer::{Explained, explain};
+use explained_answer::{Explained, explain, explain_verdict};
 use program_outside::Output;
 use std::alloc::Global;
 use text_pieces::{push, push_long};
@@ -45,7 +45,24 @@ fn output_of(alloc: Global, explained: Explained) -> Result<Explanation, Memory>
     }
 }
 
-/// The output for a text and the answer that denovo printed for it: the answer explained, or the line that refuses it.
+/// Explains an answer of denovo, or else a verdict of the referee.
+fn explained(alloc: Global, text: &[u8], answer: &[u8]) -> Result<Explained, Memory>
+    ensures { IfOk result (IsEither text.now answer.now) }
+{
+    match explain(alloc, text, answer)? {
+        Explained::Text(bytes) => Ok(Explained::Text(bytes)),
+        Explained::Refused { line } => {
+            if line == 1 {
+                explain_verdict(alloc, text, answer)
+            } else {
+                Ok(Explained::Refused { line })
+            }
+        }
+    }
+}
+
+/// The output for a text and the answer that denovo printed for it, or the verdict that the referee printed on a claim of a run
+/// of it: the answer explained, or the line that refuses it.
 ///
 /// # Errors
 /// `Memory` where there is no room.
@@ -55,5 +72,5 @@ pub fn answer(alloc: Global, text: &[u8], answer: &[u8]) -> Result<Explanation, 
     if answer.len() > MOST_OF_DOCUMENT {
         return Ok(refused(Vec::from_slice(alloc, b"refused answer too-large\n")?));
     }
-    output_of(alloc, explain(alloc, text, answer)?)
+    output_of(alloc, explained(alloc, text, answer)?)
 }

@@ -1,4 +1,4 @@
-//! The program explain, except its `main`: from a text and the answer that denovo printed for it to the answer explained.
+//! The program explain, except its `main`: from a text and the answer that denovo or the referee printed for it to the answer explained.
 #![tactic(auto)]
 
 mod answering;

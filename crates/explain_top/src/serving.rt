@@ -12,7 +12,7 @@ use dn_base::{MOST_OF_TEXT, Memory, Sequence, Sink, Source, Status};
 use program_outside::{Answers, ReadError, refuse_words, serve};
 use std::alloc::Global;
 
-/// The program explain: from a text and the answer that denovo printed for it to the answer explained.
+/// The program explain: from a text and the answer that denovo or the referee printed for it to the answer explained.
 pub struct Explain;
 
 impl Answers for Explain {

@@ -7,3 +7,4 @@ pub mod Lines
 pub mod Listing
 pub mod Parts
 pub mod Trace
+pub mod Verdicts

@@ -19,6 +19,11 @@ mod tasks;
 mod timing;
 mod trace;
 mod trace_laws;
+mod verdict_forms;
+mod verdict_laws;
+mod verdict_phrases;
+mod verdict_rows;
+mod verdicts;
 mod wholes;
 mod words;
 
@@ -30,3 +35,6 @@ pub use listing::take_listing;
 pub use taken::Taken;
 pub use trace::take_trace;
 pub use trace_laws::a_trace_of_the_text_is_taken;
+pub use verdict_laws::a_verdict_quotes_its_text;
+pub use verdict_rows::VerdictRow;
+pub use verdicts::explain_verdict;

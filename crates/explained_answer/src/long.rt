@@ -13,7 +13,7 @@ use text_pieces::behind;
 const MOST_TICKS: u64 = 25_169_664_000_000;
 
 /// The value of the digits at the start of some bytes, if it is at most `MOST_TICKS`, and how many digits there are.
-fn digits(bytes: &[u8]) -> Option<(u64, usize)>
+pub(crate) fn digits(bytes: &[u8]) -> Option<(u64, usize)>
     ensures value { IfSome result (λ d. (d.0 ≡ digits_value 10 (take_while is_ascii_digit bytes.now)) × (d.0 ≤ 25169664000000)) }
     ensures length { IfSome result (λ d. d.1 ≡ length (take_while is_ascii_digit bytes.now)) }
     ensures none { IfNone result (25169664000000 < digits_value 10 (take_while is_ascii_digit bytes.now)) }
