@@ -1,28 +1,43 @@
 -- What the replay of a document says of its run.
-use Rattle.std.proofs.Common.{◌≡◌, ◌<◌, List, sym, ap, subst, ◌∙◌, arith, length}
-use Rattle.dn_base.specs.declared.ids.Shape.{Shape}
+use Rattle.std.proofs.Common.{◌≡◌, ◌<◌, List, Result, Ok, Err, IfOk, refl, sym, subst, arith, length}
 use Rattle.region_table.specs.Program.{ProgramParts, IsProgram}
 use Rattle.message_net.specs.declared.event.Event.{Event}
 use Rattle.registration_protocol.specs.Node.{Setting}
 use Rattle.machine_rules.specs.State.{initial_state}
 use Rattle.machine_rules.proofs.OpenedFacts.{opened-setting}
 use Rattle.run_agreement.specs.Ends.{HasFlatEnd}
+use Rattle.dn_machine.specs.Kept.{Made, IsKept, IsInitialMachine}
 use Rattle.dn_machine.specs.Run.{IsCoherentRun}
 use Rattle.dn_machine.specs.declared.record.RunRecord.{RunRecord}
 use Rattle.run_replay.specs.declared.trace.Trace.{Trace}
 use Rattle.run_replay.specs.declared.replaying.Replayed.{Replayed}
 use Rattle.run_replay.specs.declared.replaying.Replayed.TheVariants.{Complete}
-use Rattle.run_replay.specs.Replay.{IsReplayOf}
+use Rattle.run_replay.specs.Replay.{IsTrueOf}
 use Rattle.checked_runs.specs.Runs.{IsRunOf, IsPrintable}
-use Rattle.checked_runs.specs.Documents.{IsReplayIn, shape_told}
+use Rattle.checked_runs.specs.Documents.{IsMachineTold, IsReplayIn, shape_told}
 use Rattle.checked_runs.proofs.RunOf.{run-of, can-print}
 
--- the replay of a shape and events that are the document's
-pub replay-at : (P Q : ProgramParts) (t : Trace) (s : Shape) (events : List Event) (r : Replayed) → Q ≡ P → s ≡ shape_told Q t.shape → events ≡ t.events
-    → IsReplayOf P s t.shape.fuel events r → IsReplayIn P t r
-replay-at P Q t s events r program shape are is =
-    subst (λ (es : List Event). IsReplayOf P (shape_told P t.shape) t.shape.fuel es r) are
-    (subst (λ (x : Shape). IsReplayOf P x t.shape.fuel events r) (shape ∙ ap (λ (p : ProgramParts). shape_told p t.shape) program) is)
+-- a machine at its start is told of its own program
+pub own-machine : (P : ProgramParts) (t : Trace) (m : Made) → IsInitialMachine P (shape_told P t.shape) t.shape.fuel m → IsMachineTold t m
+own-machine P t m at = subst (λ (p : ProgramParts). IsInitialMachine p (shape_told p t.shape) t.shape.fuel m) (sym at.program_is) at
+
+-- what is true of the document's events on its machine is their replay
+pub replay-told : {E : Type 0} (t : Trace) (m : Made) (events : List Event) (r : Result Replayed E) → IsMachineTold t m → IsKept m.state m.made → events ≡ t.events
+    → IfOk r (IsTrueOf m.state.setting events) → IfOk r (IsReplayIn m.state.setting.program t)
+replay-told t m events (Err e) at kept are is = tt
+replay-told t m events (Ok x) at kept are is =
+    record {
+      setting = m.state.setting;
+      setting_is =
+          record {
+            program = refl;
+            plans = kept.sound.machine.context.plans;
+            one_form = at.plans_are;
+            shape = at.shape_is;
+            fuel = at.fuel_is;
+          };
+      is_true = subst (λ (es : List Event). IsTrueOf m.state.setting es x) are is;
+    }
 
 -- a complete run, with what is promised of runs
 module _ (P : ProgramParts) (t : Trace) (r : RunRecord) where

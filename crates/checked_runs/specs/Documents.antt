@@ -3,6 +3,7 @@ use Rattle.std.specs.Prelude.{◌≡◌, ◌⊎◌, ℕ, List}
 use Rattle.dn_base.specs.declared.ids.Shape.{Shape}
 use Rattle.region_table.specs.Program.{ProgramParts, cores_of}
 use Rattle.dn_machine.specs.declared.record.RunRecord.{RunRecord}
+use Rattle.dn_machine.specs.Kept.{Made, IsInitialMachine}
 use Rattle.run_report.specs.Texts.{HasChecked, IsUnfit}
 use Rattle.run_replay.specs.declared.trace.TraceShape.{TraceShape}
 use Rattle.run_replay.specs.declared.trace.Trace.{Trace}
@@ -33,6 +34,10 @@ pub record IsNoDocument (bytes line : List ℕ) : Type 0 where
 -- the machine of a program with the size that a document tells
 abbrev pub shape_told : ProgramParts → TraceShape → Shape
 shape_told P s = record { cores = cores_of P; banks = s.banks; sets = s.sets; ways = s.ways }
+
+-- a machine is that of a document when its run begins, in the size that the document tells, and has this program
+abbrev pub IsMachineTold : Trace → Made → Type 0
+IsMachineTold t m = let P = m.state.setting.program in IsInitialMachine P (shape_told P t.shape) t.shape.fuel m
 
 -- the replay of a document's events on its machine gives this result
 abbrev pub IsReplayIn : ProgramParts → Trace → Replayed → Type 0

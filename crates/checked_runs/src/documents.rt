@@ -1,19 +1,20 @@
 //! From a trace to the run that it tells.
-ghost use Rattle.std.specs.Prelude.{◌≡◌, ◌≢◌, IfOk, IfErr};
+ghost use Rattle.std.specs.Prelude.{◌≡◌, ◌≢◌, IfOk, IfErr, OnOk};
+ghost use Rattle.dn_machine.specs.Kept.{IsInitialMachine};
 ghost use Rattle.run_report.specs.Texts.{IsStop};
 ghost use Rattle.run_replay.specs.declared.trace.TraceFault.TheVariants.{Memory as NoMemory};
 ghost use Rattle.run_replay.specs.declared.refusal.TraceRefusal.TheVariants.{Fault as OfFault};
-ghost use Rattle.run_replay.specs.Document.{IsDocument, IsTrace};
+ghost use Rattle.run_replay.specs.Document.{IsDocument, IsTrace, IsTraceShape};
 ghost use Rattle.run_replay.specs.Refusal.{refusal_text};
-ghost use Rattle.checked_runs.specs.Documents.{IsNoDocument, IsNoRun, IsRunTold, shape_told};
+ghost use Rattle.checked_runs.specs.Documents.{IsMachineTold, IsNoDocument, IsNoRun, IsReplayIn, IsRunTold, shape_told};
 ghost use Rattle.checked_runs.specs.Runs.{IsPrintable};
 
-use dn_base::{Sequence, Shape};
-use dn_machine::RunRecord;
+use dn_base::{Memory, Sequence, Shape};
+use dn_machine::{Machine, RunRecord, a_machine_is_kept};
 use effect_checker::Checked;
 use region_table::{Program, a_program_is_well_formed};
 use run_replay::{
-    Replayed, Trace, TraceFault, TraceRefusal, TraceShape, read_trace, replay, trace_line,
+    Replayed, Trace, TraceFault, TraceRefusal, TraceShape, read_trace, replay_on, trace_line,
 };
 use run_report::Stop;
 use std::alloc::Global;
@@ -57,24 +58,50 @@ pub fn shape_told(sizes: TraceShape, program: &Program) -> Shape
     }
 }
 
-/// The run of a trace: its events are made again on the machine of the trace's checked program.
+/// The machine of a trace's checked program when its run begins, in the size that the trace tells.
 ///
-/// The run has few enough words, tasks and events to be printed.
+/// # Errors
+/// `Memory` if there is no room.
+pub fn machine_told(alloc: Global, sizes: TraceShape, checked: Checked) -> Result<Machine, Memory>
+    requires { IsTraceShape sizes }
+    ensures { IfOk result (IsInitialMachine checked (shape_told checked sizes) sizes.fuel) }
+{
+    let shape = shape_told(sizes, checked.program());
+    Machine::start(alloc, checked, shape, sizes.fuel)
+}
+
+/// The replay of a trace's events on the trace's machine at its start.
+///
+/// # Errors
+/// `Memory` if there is no room.
+fn replayed_on(alloc: Global, machine: &mut Machine, trace: &Trace) -> Result<Replayed, Memory>
+    requires trace { IsTrace trace.now }
+    requires machine { IsMachineTold trace.now machine.old }
+    ensures replay { IfOk result (IsReplayIn machine.old.state.setting.program trace.now) }
+    ensures setting { OnOk result (machine.new.state.setting ≡ machine.old.state.setting) }
+{
+    // for the proof alone: no event has come, so the machine is the opened one, sound and coherent
+    a_machine_is_kept(machine);
+    replay_on(alloc, machine, trace.events.as_slice())
+}
+
+/// The run of a trace on a machine that is lent, as `run_told` says, so that the machine's program, plans and decoded code can be
+/// used again. It must be the machine of the trace's program and size when its run begins. Afterwards it is as the events leave
+/// it; `Machine::reset` sets it back.
 ///
 /// # Errors
 /// `Refused` with the line that says why the events are no complete run, and `Memory` if there is no room.
-pub fn run_told(alloc: Global, trace: Trace, checked: Checked) -> Result<RunRecord, Stop>
-    requires { IsTrace trace }
-    ensures told { IfOk result (IsRunTold checked trace) }
+pub fn run_told_on(alloc: Global, trace: Trace, machine: &mut Machine) -> Result<RunRecord, Stop>
+    requires trace { IsTrace trace }
+    requires machine { IsMachineTold trace machine.old }
+    ensures told { IfOk result (IsRunTold machine.old.state.setting.program trace) }
     ensures printable { IfOk result IsPrintable }
-    ensures stop { IfErr result (IsStop (IsNoRun checked trace)) }
+    ensures stop { IfErr result (IsStop (IsNoRun machine.old.state.setting.program trace)) }
+    ensures setting { OnOk result (machine.new.state.setting ≡ machine.old.state.setting) }
 {
-    let program = checked.program();
     // for the proof alone: a well-formed program has few words and tasks, so the record can be printed
-    a_program_is_well_formed(program);
-    let shape = shape_told(trace.shape, program);
-    let events = trace.events.as_slice();
-    match replay(alloc, checked, shape, trace.shape.fuel, events)? {
+    a_program_is_well_formed(machine.program());
+    match replayed_on(alloc, machine, &trace)? {
         Replayed::Complete {
             ending,
             grants,
@@ -90,4 +117,23 @@ pub fn run_told(alloc: Global, trace: Trace, checked: Checked) -> Result<RunReco
         }
         Replayed::Incomplete => Err(refused_trace(alloc, &TraceRefusal::Incomplete)),
     }
+}
+
+/// The run of a trace: its events are made again on the machine of the trace's checked program.
+///
+/// The run has few enough words, tasks and events to be printed.
+///
+/// # Errors
+/// `Refused` with the line that says why the events are no complete run, and `Memory` if there is no room.
+pub fn run_told(alloc: Global, trace: Trace, checked: Checked) -> Result<RunRecord, Stop>
+    requires { IsTrace trace }
+    ensures told { IfOk result (IsRunTold checked trace) }
+    ensures printable { IfOk result IsPrintable }
+    ensures stop { IfErr result (IsStop (IsNoRun checked trace)) }
+{
+    let mut machine = machine_told(alloc, trace.shape, checked)?;
+    let run = run_told_on(alloc, trace, &mut machine);
+    // for the prover alone: one call drops the machine, in place of the drops of all its parts at each exit
+    drop(machine);
+    run
 }

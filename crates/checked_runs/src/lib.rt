@@ -5,5 +5,5 @@
 mod documents;
 mod laws;
 
-pub use documents::{run_told, shape_told, trace_in};
+pub use documents::{machine_told, run_told, run_told_on, shape_told, trace_in};
 pub use laws::{an_outcome_has_its_cause, without_locks_every_run_ends_alike};

@@ -5,7 +5,9 @@ use Rattle.dn_base.specs.declared.ids.Shape.{Shape}
 use Rattle.region_table.specs.Program.{ProgramParts}
 use Rattle.region_table.specs.Plan.{ArePlans}
 use Rattle.machine_rules.specs.State.{State, initial_state}
+use Rattle.registration_protocol.specs.Node.{Setting}
 use Rattle.machine_rules.specs.Runs.{IsRun}
+use Rattle.machine_rules.proofs.OpenedFacts.{opened-setting}
 use Rattle.run_agreement.specs.Ends.{HasFlatEnd}
 use Rattle.dn_machine.specs.Kept.{Made, IsKept, IsInitialMachine}
 use Rattle.dn_machine.specs.Settings.{IsSettingOf}
@@ -67,3 +69,27 @@ at_shape P Q o s m at is same = subst (λ (s : Shape). IsInitialMachine P s o.fu
 -- the machine was opened for its own program
 pub at-own : (P : ProgramParts) (o : Options) (m : Made) → IsInitialMachine P (shape_for P o) o.fuel m → IsInitialMachine m.state.setting.program (shape_for m.state.setting.program o) o.fuel m
 at-own P o m at = subst (λ (p : ProgramParts). IsInitialMachine p (shape_for p o) o.fuel m) (sym at.program_is) at
+
+-- the setting of a program is that of the program that it has
+pub own-setting : (P : ProgramParts) (o : Options) (C : Setting) → IsSettingOf P (shape_for P o) o.fuel C → IsSettingOf C.program (shape_for C.program o) o.fuel C
+own-setting P o C is = subst (λ (p : ProgramParts). IsSettingOf p (shape_for p o) o.fuel C) (sym is.program) is
+
+-- a machine that was set back has the setting that it had, and is opened for its own program
+pub reset-setting : (C : Setting) (S : State) → S ≡ initial_state C → S.setting ≡ C
+reset-setting C S is = ap (λ (x : State). x.setting) is ∙ opened-setting C
+
+pub at-start : (o : Options) (C : Setting) (m : Made) → m.state ≡ initial_state C → m.made ≡ 0 → IsSettingOf C.program (shape_for C.program o) o.fuel C
+    → IsInitialMachine m.state.setting.program (shape_for m.state.setting.program o) o.fuel m
+at-start o C m at none is =
+    let same : m.state.setting ≡ C = reset-setting C m.state at in
+    let here : IsSettingOf m.state.setting.program (shape_for m.state.setting.program o) o.fuel m.state.setting =
+    subst (λ (D : Setting). IsSettingOf D.program (shape_for D.program o) o.fuel D) (sym same) is
+    in
+    record {
+      state = at ∙ ap initial_state (sym same);
+      program_is = here.program;
+      shape_is = here.shape;
+      fuel_is = here.fuel;
+      plans_are = here.one_form;
+      made = none;
+    }

@@ -28,7 +28,7 @@ use Rattle.dn_top.specs.declared.output.Output.{Output}
 use Rattle.dn_machine.specs.declared.record.RunRecord.{RunRecord}
 use Rattle.checked_runs.specs.Causes.{IsCaused}
 use Rattle.checked_runs.specs.Runs.{reported, summed_up}
-use Rattle.dn_top.specs.Runs.{IsAnyRunFor, IsRunFor, IsPrintedRun, IsTimedRun}
+use Rattle.dn_top.specs.Runs.{IsRunFor, IsPrintedRun, IsTimedRun}
 use Rattle.checked_runs.specs.Documents.{HasTrace, IsRefusedDocument}
 use Rattle.dn_top.specs.Documents.{IsTracedRun, IsReplayedRun}
 
@@ -71,10 +71,6 @@ IsReplayed document out = HasTrace document (λ t. HasChecked t.text (λ P. IsRe
 -- r is a run of the text's checked program on the machine that the options ask for, with its events picked as they ask
 abbrev pub IsRunOfText : Options → List ℕ → RunRecord → Type 0
 IsRunOfText o text r = HasChecked text (λ P. IsRunFor P o r)
-
--- the same, however its events were picked
-abbrev pub HasAnyRun : Options → List ℕ → RunRecord → Type 0
-HasAnyRun o text r = HasChecked text (λ P. IsAnyRunFor P o r)
 
 -- ---- a row for each mode
 

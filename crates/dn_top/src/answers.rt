@@ -6,15 +6,15 @@ ghost use Rattle.run_report.specs.Grants.{grant_lines};
 ghost use Rattle.run_report.specs.Summary.{checked_of as counts_of};
 ghost use Rattle.command_words.specs.Command.{OptionsInRange};
 ghost use Rattle.checked_runs.specs.Runs.{reported, summed_up};
-ghost use Rattle.dn_top.specs.Runs.{with_one_worker, IsPrintedRun, IsTimedRun};
+ghost use Rattle.dn_top.specs.Runs.{with_one_worker, IsPrintedRun};
 ghost use Rattle.dn_top.specs.Answers.{IsAnswer, IsFlatRun, IsListing, IsOutputOf, IsProof, answered, done_in, refused_in};
 ghost use Rattle.dn_top.specs.Documents.{IsTracedRun};
 ghost use Rattle.run_report.specs.Texts.{HasChecked, HasProgram, IsNoProgram, IsStop, IsUnfit};
 
 use crate::documents::{replay_document, trace_run};
 use crate::output::{Output, ended};
-use crate::runs::{report_run, run_alone, sum_up_run, time_text_run};
-use crate::timings::time_alone;
+use crate::runs::{report_run, run_alone, sum_up_run};
+use crate::timings::{time_alone, time_by_workers};
 use crate::workers::run_by_workers;
 use command_words::{Mode, Options};
 use dn_base::{Gate, MOST_WORDS, Memory, Outcome, Status};
@@ -222,23 +222,6 @@ fn trace_by_workers<R: Threads + Wait + Sync, G: Gate + Sync>(
 {
     let run = run_by_workers(rt, alloc, options, text, gate)?;
     Ok(trace_run(alloc, options, text, run)?)
-}
-
-/// Runs the program of a text by several workers, and times the run.
-fn time_by_workers<R: Threads + Wait + Sync, G: Gate + Sync>(
-    rt: &R,
-    alloc: Global,
-    options: &Options,
-    text: &[u8],
-    gate: &G,
-) -> Result<Output, Stop>
-    requires limits { OptionsInRange options.now }
-    requires several { options.now.workers ≢ 1 }
-    ensures done { IfOk result (λ out. HasChecked text.now (λ P. IsTimedRun P options.now out)) }
-    ensures stop { IfErr result (IsStop (IsUnfit text.now)) }
-{
-    let run = run_by_workers(rt, alloc, options, text, gate)?;
-    time_text_run(alloc, options, text, run)
 }
 
 /// What each mode does with a text if several workers are asked for: these make the run in the modes that pick events.

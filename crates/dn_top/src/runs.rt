@@ -4,11 +4,11 @@ ghost use Rattle.run_report.specs.Summary.{summary_of};
 ghost use Rattle.run_replay.specs.Document.{FitsDocument, IsTrace};
 ghost use Rattle.run_timing.specs.Text.{timing_of};
 ghost use Rattle.run_timing.specs.Ticks.{AreWithinLimits};
-ghost use Rattle.dn_top.specs.Answers.{HasAnyRun, IsRunOfText};
-ghost use Rattle.run_report.specs.Texts.{HasChecked, IsStop, IsUnfit};
+ghost use Rattle.dn_top.specs.Answers.{IsRunOfText};
+ghost use Rattle.run_report.specs.Texts.{IsStop, IsUnfit};
 ghost use Rattle.dn_top.specs.Documents.{trace_of};
 ghost use Rattle.checked_runs.specs.Runs.{IsPrintable, reported, summed_up};
-ghost use Rattle.dn_top.specs.Runs.{IsAnyRunFor, IsRunFor, IsTimedFor, with_one_worker, output_of_run, shape_for, ticks_for};
+ghost use Rattle.dn_top.specs.Runs.{IsRunFor, with_one_worker, output_of_run, shape_for, ticks_for};
 
 use crate::output::Output;
 use command_words::Options;
@@ -18,7 +18,7 @@ use effect_checker::Checked;
 use grant_log::Counts;
 use region_table::Program;
 use run_report::{Stop, checked_of, report, summary};
-use run_timing::{Ticks, Timing, push_timing, time_run};
+use run_timing::{Ticks, Timing, push_timing};
 use rv_core::Ending;
 use std::alloc::Global;
 
@@ -118,49 +118,4 @@ pub(crate) fn timed_text(alloc: Global, ending: &Ending, timing: &Timing) -> Res
     let mut text = summary(alloc, ending)?;
     push_timing(&mut text, timing)?;
     Ok(text)
-}
-
-/// Sums up how a run of a program ended, tells the longest chain of its events, and hands it back.
-fn time_run_of(
-    alloc: Global,
-    options: &Options,
-    checked: Checked,
-    run: RunRecord,
-) -> Result<Output, Memory>
-    requires limits { OptionsInRange options.now }
-    requires run { IsAnyRunFor checked options.now run }
-    requires printable { IsPrintable run }
-    ensures { IfOk result (IsTimedFor checked options.now run) }
-{
-    let shape = shape_of(options, checked.program());
-    let events = run.events.as_slice();
-    let timing = time_run(
-        alloc,
-        checked,
-        shape,
-        options.fuel,
-        events,
-        &ticks_of(options),
-    )?;
-    let text = timed_text(alloc, &run.ending, &timing)?;
-    Ok(handed_back(text, run))
-}
-
-/// Times a run of a text's program.
-///
-/// # Errors
-/// `Memory` where there is no room.
-pub(crate) fn time_text_run(
-    alloc: Global,
-    options: &Options,
-    text: &[u8],
-    run: RunRecord,
-) -> Result<Output, Stop>
-    requires limits { OptionsInRange options.now }
-    requires run { HasAnyRun options.now text.now run }
-    requires printable { IsPrintable run }
-    ensures ok { IfOk result (λ out. HasChecked text.now (λ P. IsTimedFor P options.now run out)) }
-    ensures stop { IfErr result (IsStop (IsUnfit text.now)) }
-{
-    Ok(time_run_of(alloc, options, checked_of(alloc, text)?, run)?)
 }

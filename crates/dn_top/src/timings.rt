@@ -1,20 +1,25 @@
 //! Runs that are timed on the machine that they are of: its program is made once.
-ghost use Rattle.std.specs.Prelude.{◌≡◌, IfOk, IfErr};
+ghost use Rattle.std.specs.Prelude.{◌≡◌, ◌≢◌, IfOk, IfErr};
 ghost use Rattle.command_words.specs.Command.{OptionsInRange};
 ghost use Rattle.dn_machine.specs.Kept.{IsInitialMachine};
+ghost use Rattle.dn_machine.specs.Settings.{IsSettingOf};
 ghost use Rattle.run_report.specs.Texts.{HasChecked, IsStop, IsUnfit};
 ghost use Rattle.checked_runs.specs.Runs.{IsPrintable};
-ghost use Rattle.dn_top.specs.Runs.{IsRunFor, IsTimedRun, shape_for, with_one_worker};
+ghost use Rattle.dn_top.specs.Runs.{IsAnyRunFor, IsRunFor, IsTimedFor, IsTimedRun, shape_for, with_one_worker};
 
 use crate::output::Output;
 use crate::runs::{handed_back, has_each_kind, shape_of, ticks_of, timed_text};
+use crate::workers::workers_run;
 use command_words::Options;
-use dn_base::Memory;
+use dn_base::{Gate, Memory};
 use dn_machine::{Machine, RunRecord, a_machine_is_kept};
 use effect_checker::Checked;
+use host_workers::WorkersRun;
 use run_report::{Stop, checked_of};
 use run_timing::time_events;
 use std::alloc::Global;
+use std::sync::Wait;
+use std::thread::Threads;
 
 /// The run of a machine at its start by the seed of the options, on this thread alone. The machine stays at its start.
 fn run_of(alloc: Global, options: &Options, machine: &Machine) -> Result<RunRecord, Memory>
@@ -31,19 +36,35 @@ fn run_of(alloc: Global, options: &Options, machine: &Machine) -> Result<RunReco
     Ok(run)
 }
 
+/// Sums up how a run of a machine at its start ended, tells the longest chain of its events, and hands it back.
+fn timed(
+    alloc: Global,
+    options: &Options,
+    machine: &mut Machine,
+    run: RunRecord,
+) -> Result<Output, Memory>
+    requires limits { OptionsInRange options.now }
+    requires initial { IsInitialMachine machine.old.state.setting.program (shape_for machine.old.state.setting.program options.now) options.now.fuel machine.old }
+    requires run { IsAnyRunFor machine.old.state.setting.program options.now run }
+    requires printable { IsPrintable run }
+    ensures { IfOk result (IsTimedFor machine.old.state.setting.program options.now run) }
+{
+    // for the proof alone: the machine's setting is that of its program, of which the run is one
+    a_machine_is_kept(machine);
+    let events = run.events.as_slice();
+    let timing = time_events(alloc, machine, events, &ticks_of(options))?;
+    let text = timed_text(alloc, &run.ending, &timing)?;
+    Ok(handed_back(text, run))
+}
+
 /// Runs a machine at its start by the seed of the options, and times the run on the same machine.
 fn time_on(alloc: Global, options: &Options, machine: &mut Machine) -> Result<Output, Memory>
     requires limits { OptionsInRange options.now }
     requires initial { IsInitialMachine machine.old.state.setting.program (shape_for machine.old.state.setting.program options.now) options.now.fuel machine.old }
     ensures { IfOk result (IsTimedRun machine.old.state.setting.program (with_one_worker options.now)) }
 {
-    // for the proof alone: the machine's setting is that of its program, of which the run is one
-    a_machine_is_kept(machine);
     let run = run_of(alloc, options, machine)?;
-    let events = run.events.as_slice();
-    let timing = time_events(alloc, machine, events, &ticks_of(options))?;
-    let text = timed_text(alloc, &run.ending, &timing)?;
-    Ok(handed_back(text, run))
+    timed(alloc, options, machine, run)
 }
 
 /// Runs a checked program on the machine that the options ask for, by their seed, on this thread alone, and times the run.
@@ -66,4 +87,58 @@ pub(crate) fn time_alone(alloc: Global, options: &Options, text: &[u8]) -> Resul
     ensures stop { IfErr result (IsStop (IsUnfit text.now)) }
 {
     Ok(time_checked(alloc, options, checked_of(alloc, text)?)?)
+}
+
+/// Times a run on the machine on which workers made it: the machine is set back to its start for that.
+fn time_again(
+    alloc: Global,
+    options: &Options,
+    machine: &mut Machine,
+    run: RunRecord,
+) -> Result<Output, Memory>
+    requires limits { OptionsInRange options.now }
+    requires setting { IsSettingOf machine.old.state.setting.program (shape_for machine.old.state.setting.program options.now) options.now.fuel machine.old.state.setting }
+    requires run { IsAnyRunFor machine.old.state.setting.program options.now run }
+    requires printable { IsPrintable run }
+    ensures { IfOk result (IsTimedFor machine.old.state.setting.program options.now run) }
+{
+    machine.reset(alloc)?;
+    timed(alloc, options, machine, run)
+}
+
+/// Runs a checked program on the machine that the options ask for, by several workers, and times the run on the same machine.
+fn time_checked_by_workers<R: Threads + Wait + Sync, G: Gate + Sync>(
+    rt: &R,
+    alloc: Global,
+    options: &Options,
+    checked: Checked,
+    gate: &G,
+) -> Result<Output, Memory>
+    requires limits { OptionsInRange options.now }
+    requires several { options.now.workers ≢ 1 }
+    ensures { IfOk result (IsTimedRun checked options.now) }
+{
+    let WorkersRun { run, machine } = workers_run(rt, alloc, options, checked, gate)?;
+    let mut machine = machine;
+    let timed = time_again(alloc, options, &mut machine, run);
+    // for the prover alone: one call drops the machine, in place of the drops of all its parts at each exit
+    drop(machine);
+    timed
+}
+
+/// Runs the program of a text by several workers, and times the run.
+pub(crate) fn time_by_workers<R: Threads + Wait + Sync, G: Gate + Sync>(
+    rt: &R,
+    alloc: Global,
+    options: &Options,
+    text: &[u8],
+    gate: &G,
+) -> Result<Output, Stop>
+    requires limits { OptionsInRange options.now }
+    requires several { options.now.workers ≢ 1 }
+    ensures done { IfOk result (λ out. HasChecked text.now (λ P. IsTimedRun P options.now out)) }
+    ensures stop { IfErr result (IsStop (IsUnfit text.now)) }
+{
+    let checked = checked_of(alloc, text)?;
+    Ok(time_checked_by_workers(rt, alloc, options, checked, gate)?)
 }

@@ -23,6 +23,7 @@ use Rattle.machine_rules.proofs.RunsKept.{run-setting}
 use Rattle.machine_rules.proofs.BoundRuns.{run-ends}
 use Rattle.dn_machine.specs.declared.log.Log.{Log}
 use Rattle.dn_machine.specs.Ends.{EndTable, no_ends, noted_ending, AreLastEnds}
+use Rattle.dn_machine.specs.declared.record.RunRecord.{RunRecord}
 use Rattle.dn_machine.specs.Kept.{Made, IsKept}
 use Rattle.dn_machine.specs.Log.{no_log}
 use Rattle.dn_machine.specs.Parts.{IsReordered}
@@ -33,7 +34,7 @@ use Rattle.round_rules.specs.Rounds.{IsReached, events_of, noted_kind, noted_eve
 use Rattle.host_workers.specs.declared.round.Round.{Round}
 use Rattle.host_workers.specs.Ends.{with_ends, last_ends, ends_of_run}
 use Rattle.host_workers.specs.Opening.{StandsFor}
-use Rattle.host_workers.specs.RoundOf.{IsRoundFrom, IsRoundBy, IsTallied, HasNoted, IsRunSoFar}
+use Rattle.host_workers.specs.RoundOf.{IsRoundFrom, IsRoundBy, IsTallied, HasNoted, IsRunSoFar, IsMadeByWorkers}
 use Rattle.host_workers.proofs.LastEnds.{ends-noted}
 
 -- ---- runs one after the other
@@ -234,3 +235,13 @@ whole C m log new ending most far over is ends = complete-run-of C (recorded new
         counted = rw is far.counts.counts;
         ends = shows;
       }
+
+-- the record of the rounds so far, beside the machine after them
+pub made-by-workers : (C : Setting) (m : Made) (log : Log) (run : RunRecord) → IsRunSoFar C m log → IsCoherentRun (initial_state C) run → run.events ≡ log.events
+    → IsMadeByWorkers (initial_state C) (record { run = run; machine = m })
+made-by-workers C m log run far is same =
+    record {
+      run = is;
+      leads = subst (λ (es : List Event). IsReordered (after (initial_state C) es) m.state) (sym same) far.leads;
+      made = far.made ∙ ap (λ (es : List Event). length es) (sym same);
+    }

@@ -14,8 +14,10 @@ use Rattle.dn_machine.specs.declared.log.Log.{Log}
 use Rattle.dn_machine.specs.Ends.{no_ends}
 use Rattle.dn_machine.specs.Kept.{Made}
 use Rattle.dn_machine.specs.Parts.{IsReordered}
+use Rattle.dn_machine.specs.Run.{IsCoherentRun}
 use Rattle.round_rules.specs.Rounds.{IsReached, events_of, noted_kind, end_observed}
 use Rattle.host_workers.specs.declared.round.Round.{Round}
+use Rattle.host_workers.specs.declared.run.WorkersRun.{WorkersRun}
 use Rattle.host_workers.specs.Ends.{with_ends}
 
 -- the events of a round are a run from state S on; the machine's state after it is the one to which they lead, except for the
@@ -64,3 +66,10 @@ pub record IsRunSoFar (C : Setting) (m : Made) (log : Log) : Type 0 where
   pub grants : log.grants ≡ grants_of (initial_state C) log.events
   pub counts : IsTallied (kinds_of (initial_state C) log.events) log
   pub ends : log.ends ≡ with_ends (read_off end_observed (initial_state C) log.events) (no_ends (length (initial_state C).setting.program.phases))
+
+-- workers made a run from state S on, with all that is promised of runs. The machine beside it is in the state to which the run's events lead,
+-- except for the order of the mails in flight
+pub record IsMadeByWorkers (S : State) (w : WorkersRun) : Type 0 where
+  pub run : IsCoherentRun S w.run
+  pub leads : IsReordered (after S w.run.events) w.machine.state
+  pub made : w.machine.made ≡ length w.run.events

@@ -25,4 +25,4 @@ pub use owned::Owned;
 pub use pass::worker_pass;
 pub use round::{Round, run_round};
 pub use round_rules::EndSeen;
-pub use run::run_workers;
+pub use run::{WorkersRun, run_keeping_machine, run_workers};

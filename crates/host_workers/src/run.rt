@@ -6,7 +6,7 @@ ghost use Rattle.machine_rules.specs.State.{initial_state};
 ghost use Rattle.machine_rules.specs.Next.{enabled};
 ghost use Rattle.machine_rules.specs.Runs.{IsOver};
 ghost use Rattle.dn_machine.specs.Run.{IsCoherentRun};
-ghost use Rattle.host_workers.specs.RoundOf.{IsTallied, HasNotedRound, IsRunSoFar};
+ghost use Rattle.host_workers.specs.RoundOf.{IsTallied, HasNotedRound, IsRunSoFar, IsMadeByWorkers};
 
 use crate::noting::{note_last, note_round};
 use crate::round::{Round, run_round};
@@ -115,7 +115,8 @@ fn make_rounds<R: Threads + Wait + Sync, G: Gate + Sync>(
 fn ended(alloc: Global, machine: &Machine, log: &mut Log) -> Result<Ending, Memory>
     requires far { IsRunSoFar machine.now.state.setting machine.now log.old }
     requires over { IsOver machine.now.state }
-    ensures { IfOk result (λ ending. IsCoherentRun (initial_state machine.now.state.setting) (record { events = log.new.events; grants = log.new.grants; counts = log.new.counts; ending = ending })) }
+    ensures run { IfOk result (λ ending. IsCoherentRun (initial_state machine.now.state.setting) (record { events = log.new.events; grants = log.new.grants; counts = log.new.counts; ending = ending })) }
+    ensures events { log.new.events ≡ log.old.events }
 {
     // for the proof alone: the machine has at most 16 cores and is sound, which the ending of the run needs
     a_machine_is_kept(machine);
@@ -130,13 +131,42 @@ fn ended(alloc: Global, machine: &Machine, log: &mut Log) -> Result<Ending, Memo
 fn recorded(alloc: Global, machine: &Machine, mut log: Log) -> Result<RunRecord, Memory>
     requires far { IsRunSoFar machine.now.state.setting machine.now log }
     requires over { IsOver machine.now.state }
-    ensures { IfOk result (IsCoherentRun (initial_state machine.now.state.setting)) }
+    ensures run { IfOk result (IsCoherentRun (initial_state machine.now.state.setting)) }
+    ensures events { IfOk result (λ run. run.events ≡ log.events) }
 {
     let ending = ended(alloc, machine, &mut log)?;
     Ok(log.record(ending))
 }
 
-/// Makes rounds until no event is enabled. Gives the record of the run, of which the log tells so far.
+/// A run that workers made, and the machine on which they made it, as its events left it: its program, plans and decoded code can
+/// be used again.
+#[derive(Drop)]
+pub struct WorkersRun {
+    pub run: RunRecord,
+    pub machine: Machine,
+}
+
+/// The record of the run of which a log tells, beside the machine after it.
+///
+/// # Errors
+/// `Memory` where there is no room for the record.
+fn kept_beside(alloc: Global, machine: Machine, log: Log) -> Result<WorkersRun, Memory>
+    requires far { IsRunSoFar machine.state.setting machine log }
+    requires over { IsOver machine.state }
+    ensures made { IfOk result (IsMadeByWorkers (initial_state machine.state.setting)) }
+    ensures setting { IfOk result (λ made. made.machine.state.setting ≡ machine.state.setting) }
+{
+    match recorded(alloc, &machine, log) {
+        Ok(run) => Ok(WorkersRun { run, machine }),
+        Err(memory) => {
+            // for the prover alone: one call drops the machine, in place of the drops of all its parts
+            drop(machine);
+            Err(memory)
+        }
+    }
+}
+
+/// Makes rounds until no event is enabled. Gives the record of the run, of which the log tells so far, and the machine.
 ///
 /// # Errors
 /// `Memory` if there is no room.
@@ -148,17 +178,47 @@ fn recorded_run<R: Threads + Wait + Sync, G: Gate + Sync>(
     seed: u32,
     gate: &G,
     mut log: Log,
-) -> Result<RunRecord, Memory>
+) -> Result<WorkersRun, Memory>
     requires some { 1 ≤ workers }
     requires few { workers ≤ 16 }
     requires far { IsRunSoFar machine.state.setting machine log }
-    ensures { IfOk result (IsCoherentRun (initial_state machine.state.setting)) }
+    ensures made { IfOk result (IsMadeByWorkers (initial_state machine.state.setting)) }
+    ensures setting { IfOk result (λ made. made.machine.state.setting ≡ machine.state.setting) }
 {
     let last = make_rounds(rt, alloc, machine, workers, seed, gate, &mut log)?;
-    let record = recorded(alloc, &last, log);
-    // for the prover alone: one call drops the machine, in place of the drops of all its parts
-    drop(last);
-    record
+    kept_beside(alloc, last, log)
+}
+
+/// The whole run of a machine by 1 to 16 workers, as `run_workers` makes it, and the machine, as the run's events left it.
+/// `Machine::reset` sets it back.
+///
+/// # Errors
+/// `Memory` if there is no room.
+pub fn run_keeping_machine<R: Threads + Wait + Sync, G: Gate + Sync>(
+    rt: &R,
+    alloc: Global,
+    machine: Machine,
+    workers: u32,
+    seed: u32,
+    gate: &G,
+) -> Result<WorkersRun, Memory>
+    requires some { 1 ≤ workers }
+    requires few { workers ≤ 16 }
+    requires made { machine.made ≡ 0 }
+    ensures made { IfOk result (IsMadeByWorkers machine.state) }
+    ensures setting { IfOk result (λ made. made.machine.state.setting ≡ machine.state.setting) }
+{
+    keep_freed_memory(alloc);
+    // for the proof alone: no event has come, so the machine is the initial one, with which a run begins
+    a_machine_is_kept(&machine);
+    match machine.log(alloc) {
+        Ok(log) => recorded_run(rt, alloc, machine, workers, seed, gate, log),
+        Err(memory) => {
+            // for the prover alone: one call drops the machine, in place of the drops of all its parts
+            drop(machine);
+            Err(memory)
+        }
+    }
 }
 
 /// The whole run of a machine by 1 to 16 workers, in rounds. If an event is enabled after a round, there is another round, with a
@@ -188,15 +248,9 @@ pub fn run_workers<R: Threads + Wait + Sync, G: Gate + Sync>(
     requires made { machine.made ≡ 0 }
     ensures { IfOk result (IsCoherentRun machine.state) }
 {
-    keep_freed_memory(alloc);
-    // for the proof alone: no event has come, so the machine is the initial one, with which a run begins
-    a_machine_is_kept(&machine);
-    match machine.log(alloc) {
-        Ok(log) => recorded_run(rt, alloc, machine, workers, seed, gate, log),
-        Err(memory) => {
-            // for the prover alone: one call drops the machine, in place of the drops of all its parts
-            drop(machine);
-            Err(memory)
-        }
-    }
+    let WorkersRun { run, machine: last } =
+        run_keeping_machine(rt, alloc, machine, workers, seed, gate)?;
+    // for the prover alone: one call drops the machine, in place of the drops of all its parts
+    drop(last);
+    Ok(run)
 }

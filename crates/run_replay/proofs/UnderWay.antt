@@ -1,5 +1,5 @@
 -- How events are replayed: those so far are a run that leads to the machine's state, and they are noted.
-use Rattle.std.proofs.Common.{◌≡◌, ℕ, ◌+◌, ◌<◌, ◌≤◌, true, false, List, [], ◌∷◌, ◌++◌, length, take, drop, get_or, Option, Some, None, Result, Ok, Err, IfOk, refl, sym, ap, subst, ◌∙◌, arith, length-append}
+use Rattle.std.proofs.Common.{◌≡◌, ℕ, ◌+◌, ◌<◌, ◌≤◌, true, false, List, [], ◌∷◌, ◌++◌, length, take, drop, get_or, Option, Some, None, Result, Ok, Err, IfOk, OnOk, refl, sym, ap, subst, ◌∙◌, arith, length-append}
 use Rattle.std.proofs.lemmas.List.{take-append-drop, take_more, take_all, drop_more, length-take-le}
 use Rattle.std.proofs.lemmas.Bool.{true≢false}
 use Rattle.region_table.specs.Program.{ProgramParts}
@@ -21,13 +21,15 @@ use Rattle.machine_rules.specs.Next.{next, enabled}
 use Rattle.machine_rules.specs.Runs.{after, IsRun, IsOver, IsCompleteRun, kinds_of}
 use Rattle.machine_rules.specs.Sound.{IsReady}
 use Rattle.machine_rules.proofs.OpenedFacts.{opened-setting}
-use Rattle.machine_rules.proofs.RunsKept.{run-setting}
+use Rattle.machine_rules.specs.declared.stepped.Stepped.{Stepped}
+use Rattle.machine_rules.proofs.RunsKept.{run-setting, same-setting}
 use Rattle.dn_machine.specs.declared.log.Happened.{Happened}
 use Rattle.dn_machine.specs.declared.log.Log.{Log}
 use Rattle.dn_machine.specs.Actors.{actor_in}
 use Rattle.dn_machine.specs.Kept.{Made, IsKept, IsInitialMachine}
 use Rattle.dn_machine.specs.Run.{IsRecord}
 use Rattle.dn_machine.specs.Settings.{IsSettingOf}
+use Rattle.dn_machine.specs.Tried.{IsTried}
 use Rattle.dn_machine.specs.Log.{core_in, core_of, HasCome, no_log, with_event, IsLogOf}
 use Rattle.dn_machine.proofs.LogLemmas.{log-more, log-opened, count-within}
 use Rattle.dn_machine.proofs.RunLemmas.{in-place, ready-of, ending-true, complete-run-of}
@@ -88,6 +90,16 @@ goes-on C events S T made log h way may come kept =
 
 pub way-setting : (C : Setting) (events : List Event) (T : State) (made : ℕ) (log : Log) → IsUnderWay C events T made log → T.setting ≡ C
 way-setting C events T made log way = ap (λ (x : State). x.setting) way.leads ∙ run-setting (initial_state C) events ∙ opened-setting C
+
+-- the machine has the setting of the replay, whatever comes of its last step
+pub setting-kept : {X E : Type 0} (C : Setting) (events : List Event) (T : State) (made : ℕ) (log : Log) (r : Result X E) → IsUnderWay C events T made log → OnOk r (T.setting ≡ C)
+setting-kept C events T made log (Ok x) way = way-setting C events T made log way
+setting-kept C events T made log (Err e) way = tt
+
+-- an event that came or didn't leaves the setting
+pub tried-setting : (S T : State) (e : Event) (came : Option (Actor × Stepped)) → IsTried S T e came → T.setting ≡ S.setting
+tried-setting S T e None tried = ap (λ (x : State). x.setting) tried.1
+tried-setting S T e (Some came) tried = ap (λ (x : State). x.setting) tried.state ∙ same-setting S e
 
 pub way-ready : (C : Setting) (events : List Event) (T : State) (made : ℕ) (log : Log) → IsUnderWay C events T made log → IsKept T made → IsReady C
 way-ready C events T made log way kept = subst IsReady (way-setting C events T made log way) (ready-of T made kept)

@@ -1,4 +1,4 @@
-ghost use Rattle.std.specs.Prelude.{◌≡◌, ◌<◌, ◌≤◌, Some, length, IfOk};
+ghost use Rattle.std.specs.Prelude.{◌≡◌, ◌<◌, ◌≤◌, Some, length, IfOk, OnOk};
 ghost use Rattle.machine_rules.specs.State.{initial_state};
 ghost use Rattle.dn_machine.specs.Kept.{IsKept};
 ghost use Rattle.dn_machine.specs.Log.{core_of, end_there};
@@ -49,7 +49,8 @@ fn task_end(machine: &Machine, actor: Actor) -> Option<TaskEnd>
 /// `Memory` if there is no room for the messages.
 fn advance(machine: &mut Machine, event: Event) -> Result<Option<Happened>, Memory>
     requires { machine.old.made < 4000000000 }
-    ensures { IfOk result (HasAdvanced machine.old machine.new event) }
+    ensures advanced { IfOk result (HasAdvanced machine.old machine.new event) }
+    ensures setting { OnOk result (machine.new.state.setting ≡ machine.old.state.setting) }
 {
     let Some((actor, observed)) = machine.try_step(event)? else {
         return Ok(None);
@@ -88,12 +89,22 @@ fn finish(alloc: Global, machine: &Machine, log: Log) -> Result<Replayed, Memory
     })
 }
 
-/// Replays events on an initial machine.
-fn follow_on(alloc: Global, machine: &mut Machine, events: &[Event]) -> Result<Replayed, Memory>
+/// Replays events on a machine that is lent, as `replay` says, so that the machine's program, plans and decoded code can be used
+/// again. No event may have come on the machine. Afterwards it is as the events leave it, up to the first that is not enabled;
+/// `Machine::reset` sets it back.
+///
+/// # Errors
+/// `Memory` if there is no room for the messages or the notes of the events.
+pub fn replay_on(
+    alloc: Global,
+    machine: &mut Machine,
+    events: &[Event],
+) -> Result<Replayed, Memory>
     requires initial { machine.old.state ≡ initial_state machine.old.state.setting }
     requires made { machine.old.made ≡ 0 }
     requires few { length events.now ≤ MOST_EVENTS }
-    ensures { IfOk result (IsTrueOf machine.old.state.setting events.now) }
+    ensures is_true { IfOk result (IsTrueOf machine.old.state.setting events.now) }
+    ensures setting { OnOk result (machine.new.state.setting ≡ machine.old.state.setting) }
 {
     let mut log = machine.log(alloc)?;
     let mut number: u32 = 0;
@@ -106,16 +117,6 @@ fn follow_on(alloc: Global, machine: &mut Machine, events: &[Event]) -> Result<R
         number += 1;
     }
     finish(alloc, machine, log)
-}
-
-/// The same, and drops the machine. The loop is in a function of its own, which keeps the proofs of both small.
-fn follow(alloc: Global, mut machine: Machine, events: &[Event]) -> Result<Replayed, Memory>
-    requires initial { machine.state ≡ initial_state machine.state.setting }
-    requires made { machine.made ≡ 0 }
-    requires few { length events.now ≤ MOST_EVENTS }
-    ensures { IfOk result (IsTrueOf machine.state.setting events.now) }
-{
-    follow_on(alloc, &mut machine, events)
 }
 
 /// Replays events on the initial machine of a checked program, each in its turn, as long as they are enabled.
@@ -141,8 +142,8 @@ pub fn replay(
     requires few { length events.now ≤ MOST_EVENTS }
     ensures { IfOk result (IsReplayOf checked shape fuel events.now) }
 {
-    let machine = Machine::start(alloc, checked, shape, fuel)?;
+    let mut machine = Machine::start(alloc, checked, shape, fuel)?;
     // for the proof alone: no event has come, so the machine is the opened one, sound and coherent
     a_machine_is_kept(&machine);
-    follow(alloc, machine, events)
+    replay_on(alloc, &mut machine, events)
 }

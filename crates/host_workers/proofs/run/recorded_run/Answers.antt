@@ -1,17 +1,23 @@
-use Rattle.std.proofs.Common.{sym, subst, IfOk}
+use Rattle.std.proofs.Common.{◌≡◌, sym, subst, ◌∙◌, IfOk}
+use Rattle.std.proofs.lemmas.Result.{IfOk-weaker}
 use Rattle.registration_protocol.specs.Node.{Setting}
 use Rattle.machine_rules.specs.State.{initial_state}
-use Rattle.dn_machine.specs.Run.{IsCoherentRun}
-use Rattle.host_workers.specs.RoundOf.{IsRunSoFar}
+use Rattle.host_workers.specs.declared.run.WorkersRun.{WorkersRun}
+use Rattle.host_workers.specs.RoundOf.{IsMadeByWorkers, IsRunSoFar}
 use Rattle.host_workers.proofs.run.recorded_run.Goals as goal
 
-pub recorded-record-requires-clause-far : goal.recorded-record-requires-clause-far
-recorded-record-requires-clause-far g c =
+pub kept_beside-requires-clause-far : goal.kept_beside-requires-clause-far
+kept_beside-requires-clause-far g c =
     subst (λ (C : Setting). IsRunSoFar C c.in_ok-last.last c.make_rounds.new.log) (sym c.in_ok-last.ensures.setting) c.in_ok-last.ensures.far
 
-pub recorded-record-requires-clause-over : goal.recorded-record-requires-clause-over
-recorded-record-requires-clause-over g c = c.in_ok-last.ensures.over
+pub kept_beside-requires-clause-over : goal.kept_beside-requires-clause-over
+kept_beside-requires-clause-over g c = c.in_ok-last.ensures.over
 
-pub returns : goal.returns
-returns g c =
-    subst (λ (C : Setting). IfOk c.recorded-record.result (IsCoherentRun (initial_state C))) c.in_ok-last.ensures.setting c.recorded-record.ensures
+pub returns-clause-made : goal.returns-clause-made
+returns-clause-made g c =
+    subst (λ (C : Setting). IfOk c.kept_beside.result (IsMadeByWorkers (initial_state C))) c.in_ok-last.ensures.setting c.kept_beside.ensures.made
+
+pub returns-clause-setting : goal.returns-clause-setting
+returns-clause-setting g c =
+    IfOk-weaker c.kept_beside.result _ (λ (w : WorkersRun). w.machine.state.setting ≡ c.args.machine.state.setting)
+    (λ w is. is ∙ c.in_ok-last.ensures.setting) c.kept_beside.ensures.setting

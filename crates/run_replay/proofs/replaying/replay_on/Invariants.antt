@@ -1,6 +1,6 @@
 use Rattle.std.proofs.Common.{◌≡◌, take}
 use Rattle.run_replay.proofs.UnderWay.{IsUnderWay}
-use Rattle.run_replay.proofs.replaying.follow_on.Given as goal
+use Rattle.run_replay.proofs.replaying.replay_on.Given as goal
 
 abbrev pub invariant-loop-event : goal.invariant-loop-event
 invariant-loop-event l =

@@ -1,0 +1,18 @@
+use Rattle.std.proofs.Common.{IfOk, sym, subst}
+use Rattle.registration_protocol.specs.Node.{Setting}
+use Rattle.dn_top.specs.declared.output.Output.{Output}
+use Rattle.dn_top.specs.Runs.{IsAnyRunFor, IsTimedFor}
+use Rattle.dn_top.proofs.RunOf.{reset-setting, at-start}
+use Rattle.dn_top.proofs.timings.time_again.Goals as goal
+
+pub timed-requires-clause-initial : goal.timed-requires-clause-initial
+timed-requires-clause-initial c =
+    at-start c.args.options.now c.args.machine.now.state.setting c.reset.new.self c.in_ok-reset.ensures.state c.in_ok-reset.ensures.made c.requires.setting
+
+pub timed-requires-clause-run : goal.timed-requires-clause-run
+timed-requires-clause-run c =
+    subst (λ (C : Setting). IsAnyRunFor C.program c.args.options.now c.args.run) (sym (reset-setting c.args.machine.now.state.setting c.reset.new.self.state c.in_ok-reset.ensures.state)) c.requires.run
+
+pub returns : goal.returns
+returns c =
+    subst (λ (C : Setting). IfOk c.timed.result (λ (out : Output). IsTimedFor C.program c.args.options.now c.args.run out)) (reset-setting c.args.machine.now.state.setting c.reset.new.self.state c.in_ok-reset.ensures.state) c.timed.ensures
