@@ -1,5 +1,5 @@
 -- The load that a diagnosis names is the first that differs from the claim.
-use Rattle.std.proofs.Common.{◌≡◌, ◌≢◌, ℕ, ◌+◌, ◌<◌, ◌≤◌, Bool, true, false, ◌&&◌, not, List, [], ◌∷◌, ◌++◌, length, take, drop, get_or, slice_get, position, Option, Some, None, refl, sym, ap, ◌∙◌, subst, arith}
+use Rattle.std.proofs.Common.{◌≡◌, ◌≢◌, ℕ, ◌+◌, ◌<◌, ◌≤◌, Bool, true, false, ◌&&◌, not, List, ◌∷◌, ◌++◌, length, take, drop, get_or, slice_get, Option, Some, None, refl, sym, ap, ◌∙◌, subst, arith}
 use Rattle.std.specs.List.{All, position_or_len}
 use Rattle.std.proofs.lemmas.Bool.{true≢false, false≢true}
 use Rattle.std.proofs.lemmas.Bool.Decides.{nat_tests}
@@ -17,7 +17,6 @@ use Rattle.flat_machine.specs.declared.ending.TaskLoads.{TaskLoads}
 use Rattle.claims.specs.declared.diagnosis.Diagnosis.{Diagnosis}
 use Rattle.claims.specs.declared.diagnosis.Diagnosis as diagnosis
 use Rattle.claims.specs.declared.diagnosis.WrongLoad.{WrongLoad}
-use Rattle.claims.specs.Differences.{is_same_load}
 use Rattle.claims.specs.Diagnosis.{is_load, load_by, claimed_load, is_claimed_as, is_wrong_load, earliest_wrong, last_store, wrong_load, wrong_action, wrong_at, first_wrong_load}
 use Rattle.claims.specs.DiagnosisLaws.{IsStoredBy, IsClaimedAsMade, IsFirstToDiffer}
 use Rattle.claims.proofs.Agreement.{load-self, load-exact}

@@ -1,7 +1,7 @@
 -- A grant is at fault where it isn't legal, and the reason that is given is true.
 use Rattle.std.proofs.Common.{◌≡◌, ◌≢◌, ℕ, zero, suc, ◌+◌, ◌-◌, ◌<◌, ◌≤◌, ◌==◌, Bool, true, false, not, cond, if◌then◌else◌, List, [], ◌∷◌, ◌++◌, length, take, drop, get_or, find, nat_eq, position, slice_get, Option, Some, None, is_none, unwrap_or, refl, sym, ap, ◌∙◌, subst, arith}
 use Rattle.std.specs.Option.{option_or}
-use Rattle.std.specs.List.{All, IsAmong, list_all, list_any, position_or_len}
+use Rattle.std.specs.List.{All, IsAmong, list_all, position_or_len}
 use Rattle.std.proofs.lemmas.Bool.{true≢false, false≢true}
 use Rattle.std.proofs.lemmas.Bool.Decides.{nat_tests}
 use Rattle.std.proofs.lemmas.List.{take_all, take-append-drop}
@@ -9,7 +9,7 @@ use Rattle.std.proofs.lemmas.List.Elements.{All-nil, All-cons}
 use Rattle.std.proofs.lemmas.List.Folds.{list_any_none}
 use Rattle.std.proofs.lemmas.List.Quantifiers.{position-Some}
 use Rattle.std.proofs.lemmas.List.Sums.{fails_before_first}
-use Rattle.std.proofs.lemmas.Option.{none-some, same_Some, slice_get-get_or, slice_get_within, get_or_from_slice_get, slice_get_past}
+use Rattle.std.proofs.lemmas.Option.{none-some, same_Some, slice_get_within, get_or_from_slice_get, slice_get_past}
 use Rattle.dn_base.specs.declared.ids.Grant.{Grant}
 use Rattle.dn_base.specs.declared.ids.LockId.{LockId}
 use Rattle.region_table.specs.Program.{ProgramParts}
@@ -29,9 +29,9 @@ use Rattle.flat_machine.specs.Phases.{Flat, settled, initial_flat}
 use Rattle.flat_machine.specs.Grants.{is_free, grant_of, grant_by, grant_for, is_grant, first_grant, can_take, resumed, granted_at, granted, granted_if, grants_from, so_far, next_grant, grants_are_whole}
 use Rattle.flat_machine.specs.Refused.{MayNotCome, IsFirstRefused, IsRunBy}
 use Rattle.flat_machine.specs.Faults.{has_ended, is_of_core, task_holds, held_fault, wish_fault, task_fault, current_phase, grant_fault, unfinished, next_fault, Stops, StopsFor}
-use Rattle.flat_machine.specs.Laws.{HasTasks, EndsSegment}
+use Rattle.flat_machine.specs.Laws.{EndsSegment}
 use Rattle.flat_machine.proofs.CauseLemmas.{all-pass, run-resting}
-use Rattle.flat_machine.proofs.GrantLemmas.{grants-none, grants-illegal, next-legal}
+use Rattle.flat_machine.proofs.GrantLemmas.{grants-illegal, next-legal}
 use Rattle.flat_machine.proofs.PhaseLemmas.{some_within}
 use Rattle.flat_machine.proofs.ReachedLaws.{grants-append, reached-tasks}
 use Rattle.flat_machine.proofs.RefusedLemmas.{comes-to_one}
@@ -45,7 +45,7 @@ use Rattle.claims.specs.Judge.{load_verdict, task_verdict, tasks_verdict, loads_
 use Rattle.claims.specs.declared.diagnosis.Diagnosis.{Diagnosis}
 use Rattle.claims.specs.declared.diagnosis.Diagnosis as diagnosis
 use Rattle.claims.specs.Diagnosis.{IsDiagnosis}
-use Rattle.claims.specs.DiagnosisLaws.{IsIllegalAt, IsLegalNotMaximal, HasTaskOn, IsTrueReason, IsReasonAt, IsSaidUnfinished}
+use Rattle.claims.specs.DiagnosisLaws.{IsIllegalAt, IsLegalNotMaximal, IsTrueReason, IsReasonAt, IsSaidUnfinished}
 
 -- ---- where a list is refused
 

@@ -1,9 +1,8 @@
 -- Each load of the one thread is made by a load of its word, which a line of the text gives.
-use Rattle.std.proofs.Common.{◌≡◌, ℕ, ℤ, zero, suc, ◌+◌, ◌-◌, ◌/◌, ◌%◌, ◌<◌, Bool, true, false, cond, ◌&&◌, nat_le, ◌==◌, if◌then◌else◌, List, [], ◌∷◌, ◌++◌, length, drop, position, slice_get, slice_index, Option, Some, None, Ok, refl, sym, ap, ◌∙◌, subst, arith}
+use Rattle.std.proofs.Common.{◌≡◌, ℕ, ℤ, zero, suc, ◌-◌, ◌/◌, ◌%◌, Bool, true, false, ◌&&◌, nat_le, ◌==◌, if◌then◌else◌, List, [], ◌∷◌, ◌++◌, length, drop, position, slice_get, slice_index, Option, Some, None, Ok, refl, sym, ap, ◌∙◌, subst, arith}
 use Rattle.std.specs.List.{All, IsAmong, list_all}
-use Rattle.std.proofs.lemmas.Bool.{false≢true}
 use Rattle.std.proofs.lemmas.List.Elements.{All-nil, All-cons, All-append}
-use Rattle.std.proofs.lemmas.Option.{none-some, same_Some, slice_get_within, slice_get-get_or}
+use Rattle.std.proofs.lemmas.Option.{none-some, slice_get_within, slice_get-get_or}
 use Rattle.dn_base.specs.declared.ids.Grant.{Grant}
 use Rattle.dn_base.specs.declared.ids.WordId.{WordId}
 use Rattle.region_table.specs.Program.{ProgramParts}
@@ -21,7 +20,7 @@ use Rattle.rv_core.specs.declared.need.Need.TheVariants.{Load}
 use Rattle.rv_core.specs.Access.{may_load}
 use Rattle.rv_core.specs.Address.{code_at, data_at, size_of, is_whole}
 use Rattle.rv_core.specs.Registers.{value_in}
-use Rattle.rv_core.specs.Need.{need_of, fetch_need, word_need, instr_need, load_need, address_of, jump_target, register_target}
+use Rattle.rv_core.specs.Need.{fetch_need, word_need, instr_need, load_need, address_of, jump_target, register_target}
 use Rattle.rv_core.specs.Step.{advanced}
 use Rattle.rv_core.proofs.Needs.{neither, first_taken, fuelled, no_jump, no_store, no_call}
 use Rattle.rv_assembler.specs.Source.{source}

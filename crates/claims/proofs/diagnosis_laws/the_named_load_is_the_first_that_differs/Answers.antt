@@ -1,8 +1,5 @@
-use Rattle.std.proofs.Common.{◌≡◌, List, Option, Some, None, sym, ap}
+use Rattle.std.proofs.Common.{Some, None, sym}
 use Rattle.flat_machine.specs.Accesses.{actions_so_far}
-use Rattle.claims.specs.declared.diagnosis.Diagnosis.{Diagnosis}
-use Rattle.claims.specs.declared.diagnosis.Diagnosis as diagnosis
-use Rattle.claims.specs.declared.diagnosis.WrongLoad.{WrongLoad}
 use Rattle.claims.specs.Diagnosis.{loads_claimed}
 use Rattle.claims.proofs.FirstLoads.{named-first, named-none, same-first}
 use Rattle.claims.proofs.diagnosis_laws.the_named_load_is_the_first_that_differs.Goals as goal
