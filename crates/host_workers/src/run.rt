@@ -248,8 +248,9 @@ pub fn run_workers<R: Threads + Wait + Sync, G: Gate + Sync>(
     requires made { machine.made ≡ 0 }
     ensures { IfOk result (IsCoherentRun machine.state) }
 {
-    let WorkersRun { run, machine: last } =
-        run_keeping_machine(rt, alloc, machine, workers, seed, gate)?;
+    let WorkersRun { run, machine: last } = run_keeping_machine(
+        rt, alloc, machine, workers, seed, gate,
+    )?;
     // for the prover alone: one call drops the machine, in place of the drops of all its parts
     drop(last);
     Ok(run)

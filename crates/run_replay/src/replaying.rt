@@ -95,11 +95,7 @@ fn finish(alloc: Global, machine: &Machine, log: Log) -> Result<Replayed, Memory
 ///
 /// # Errors
 /// `Memory` if there is no room for the messages or the notes of the events.
-pub fn replay_on(
-    alloc: Global,
-    machine: &mut Machine,
-    events: &[Event],
-) -> Result<Replayed, Memory>
+pub fn replay_on(alloc: Global, machine: &mut Machine, events: &[Event]) -> Result<Replayed, Memory>
     requires initial { machine.old.state ≡ initial_state machine.old.state.setting }
     requires made { machine.old.made ≡ 0 }
     requires few { length events.now ≤ MOST_EVENTS }
