@@ -106,6 +106,22 @@ fn time_again(
     timed(alloc, options, machine, run)
 }
 
+/// Times a run that workers made, on their machine.
+fn time_made(alloc: Global, options: &Options, made: WorkersRun) -> Result<Output, Memory>
+    requires limits { OptionsInRange options.now }
+    requires setting { IsSettingOf made.machine.state.setting.program (shape_for made.machine.state.setting.program options.now) options.now.fuel made.machine.state.setting }
+    requires run { IsAnyRunFor made.machine.state.setting.program options.now made.run }
+    requires printable { IsPrintable made.run }
+    ensures { IfOk result (IsTimedFor made.machine.state.setting.program options.now made.run) }
+{
+    let WorkersRun { run, machine } = made;
+    let mut machine = machine;
+    let timed = time_again(alloc, options, &mut machine, run);
+    // for the prover alone: one call drops the machine, in place of the drops of all its parts at each exit
+    drop(machine);
+    timed
+}
+
 /// Runs a checked program on the machine that the options ask for, by several workers, and times the run on the same machine.
 fn time_checked_by_workers<R: Threads + Wait + Sync, G: Gate + Sync>(
     rt: &R,
@@ -118,12 +134,8 @@ fn time_checked_by_workers<R: Threads + Wait + Sync, G: Gate + Sync>(
     requires several { options.now.workers ≢ 1 }
     ensures { IfOk result (IsTimedRun checked options.now) }
 {
-    let WorkersRun { run, machine } = workers_run(rt, alloc, options, checked, gate)?;
-    let mut machine = machine;
-    let timed = time_again(alloc, options, &mut machine, run);
-    // for the prover alone: one call drops the machine, in place of the drops of all its parts at each exit
-    drop(machine);
-    timed
+    let made = workers_run(rt, alloc, options, checked, gate)?;
+    time_made(alloc, options, made)
 }
 
 /// Runs the program of a text by several workers, and times the run.

@@ -13,7 +13,7 @@ ghost use Rattle.view_top.specs.Kept.{IsFit, IsKeptChain, IsMachineOf, IsViewabl
 
 use crate::ChartOptions;
 use crate::answering::{Output, done_with, refused_words};
-use crate::documents::{DocumentRun, KeptRun, document_run, places_in, program_in, shape_of};
+use crate::documents::{KeptRun, document_run, places_in, program_in, shape_of};
 use crate::timings::timing_of;
 use dn_base::{Memory, Sequence};
 use dn_machine::Machine;
@@ -155,11 +155,9 @@ pub(crate) fn draw_document(
     ensures made { IfOk result (view_made (view.Chart options.now) document.now) }
     ensures stop { IfErr result (IsStop (IsRefusedDocument document.now)) }
 {
-    let DocumentRun { kept, machine } = document_run(alloc, document)?;
-    let mut machine = machine;
-    let drawn = draw(alloc, options, &kept, &mut machine);
+    let mut told = document_run(alloc, document)?;
+    let drawn = draw(alloc, options, &told.kept, &mut told.machine);
     // for the prover alone, as in `drawn`
-    drop(machine);
-    drop(kept);
+    drop(told);
     Ok(drawn?)
 }

@@ -12,7 +12,7 @@ ghost use Rattle.view_top.specs.Kept.{IsMachineOf, IsViewable};
 use crate::AccountOptions;
 use crate::accounts::heading;
 use crate::answering::{Output, done_with};
-use crate::documents::{DocumentRun, KeptRun, begin_again, document_run};
+use crate::documents::{KeptRun, begin_again, document_run};
 use dn_base::Memory;
 use dn_machine::Machine;
 use message_net::Event;
@@ -96,11 +96,9 @@ pub(crate) fn lists_document(
     ensures made { IfOk result (view_made (view.Lists options.now) document.now) }
     ensures stop { IfErr result (IsStop (IsRefusedDocument document.now)) }
 {
-    let DocumentRun { kept, machine } = document_run(alloc, document)?;
-    let mut machine = machine;
-    let printed = beside(alloc, options, &kept, &mut machine);
-    // for the prover alone: two calls drop the run and its machine, in place of the drops of all their parts at each exit
-    drop(machine);
-    drop(kept);
+    let mut told = document_run(alloc, document)?;
+    let printed = beside(alloc, options, &told.kept, &mut told.machine);
+    // for the prover alone: one call drops the run and its machine, in place of the drops of all their parts at each exit
+    drop(told);
     Ok(printed?)
 }

@@ -12,7 +12,7 @@ ghost use Rattle.view_top.specs.Kept.{IsMachineOf, IsViewable};
 use crate::PageOptions;
 use crate::answering::{Output, output, refused_words};
 use crate::charts::last_number;
-use crate::documents::{DocumentRun, KeptRun, begin_again, document_run};
+use crate::documents::{KeptRun, begin_again, document_run};
 use crate::status::ViewStatus;
 use crate::timings::timing_of;
 use dn_base::{Memory, Sequence};
@@ -117,11 +117,9 @@ pub(crate) fn page_document(
     ensures made { IfOk result (view_made (view.Page options.now) document.now) }
     ensures stop { IfErr result (IsStop (IsRefusedDocument document.now)) }
 {
-    let DocumentRun { kept, machine } = document_run(alloc, document)?;
-    let mut machine = machine;
-    let paged = paged(alloc, options, &kept, &mut machine);
-    // for the prover alone: two calls drop the run and its machine, in place of the drops of all their parts at each exit
-    drop(machine);
-    drop(kept);
+    let mut told = document_run(alloc, document)?;
+    let paged = paged(alloc, options, &told.kept, &mut told.machine);
+    // for the prover alone: one call drops the run and its machine, in place of the drops of all their parts at each exit
+    drop(told);
     Ok(paged?)
 }

@@ -12,7 +12,7 @@ ghost use Rattle.view_top.specs.Kept.{AreKeptFinishes, IsMachineOf, IsViewable};
 use crate::PageOptions;
 use crate::answering::{Output, output, refused_words};
 use crate::charts::last_number;
-use crate::documents::{DocumentRun, KeptRun, begin_again, document_run, places_in};
+use crate::documents::{KeptRun, begin_again, document_run, places_in};
 use crate::pages::page_for;
 use crate::status::ViewStatus;
 use crate::timings::timing_of;
@@ -136,11 +136,9 @@ pub(crate) fn data_document(
     ensures made { IfOk result (view_made (view.Data options.now) document.now) }
     ensures stop { IfErr result (IsStop (IsRefusedDocument document.now)) }
 {
-    let DocumentRun { kept, machine } = document_run(alloc, document)?;
-    let mut machine = machine;
-    let told = asked_data(alloc, options, &kept, &mut machine);
-    // for the prover alone: two calls drop the run and its machine, in place of the drops of all their parts at each exit
-    drop(machine);
-    drop(kept);
-    Ok(told?)
+    let mut told = document_run(alloc, document)?;
+    let written = asked_data(alloc, options, &told.kept, &mut told.machine);
+    // for the prover alone: one call drops the run and its machine, in place of the drops of all their parts at each exit
+    drop(told);
+    Ok(written?)
 }
