@@ -1,17 +1,14 @@
 //! The lines of the answer of a run.
-ghost use Rattle.std.specs.Prelude.{◌≡◌, ◌++◌, All, OnOk, IfOk};
-ghost use Rattle.sentences.specs.Effects.{task_effects};
+ghost use Rattle.std.specs.Prelude.{◌≡◌, ◌++◌, OnOk};
+ghost use Rattle.sentences.specs.Told.{AreTold};
 ghost use Rattle.sentences.specs.Quotes.{AreSpans};
 ghost use Rattle.explained_answer.specs.AnswerLines.{answer_line};
-ghost use Rattle.explained_answer.specs.Lines.{named_word, named_lock, which_line, declared_there, task_there, the_instruction, stands_there, instruction_there, unproven_text, stuck_text, outcome_text, sentences_behind, lines_and_sentences, IsLineOf, IsWritten, lines_in};
+ghost use Rattle.explained_answer.specs.Lines.{named_word, named_lock, which_line, declared_there, task_there, the_instruction, stands_there, instruction_there, unproven_text, stuck_text, outcome_text, sentences_behind};
 
 use crate::AnswerLine;
-use crate::holders::{holder_on, last_grants};
-use crate::parsing::ReadLine;
 use dn_base::{Memory, Outcome};
-use sentences::{EffectLine, code_place_at, effect_lines, line_spans, push_ending, push_line};
+use sentences::{ToldEffects, code_place_at, push_ending, push_line};
 use src_text::Span;
-use std::alloc::Global;
 use text_pieces::{push, push_decimal};
 use text_places::{CodePlace, Located, Places, TaskPlace, push_code_place, push_lock, push_word};
 
@@ -143,17 +140,17 @@ fn push_outcome(out: &mut Vec<u8>, outcome: Outcome) -> Result<(), Memory>
 }
 
 /// Adds what is said after a line of an answer. `holder` is the core that holds the lock for which the line's task waits.
-fn push_sentences(
+fn push_sentences<'a>(
     out: &mut Vec<u8>,
     text: &[u8],
     spans: &[Span],
-    effects: &[EffectLine],
-    located: &Located,
+    effects: &ToldEffects<'a>,
+    located: &'a Located,
     line: AnswerLine,
     holder: Option<u32>,
 ) -> Result<(), Memory>
     requires spans { AreSpans text.now spans.now }
-    requires effects { effects.now ≡ task_effects text.now }
+    requires effects { AreTold text.now effects.now }
     ensures { OnOk result (out.new.items ≡ out.old.items ++ sentences_behind text.now located.now holder line) }
 {
     match line {
@@ -179,54 +176,21 @@ fn push_sentences(
 }
 
 /// Adds a line, which is written so, and what is said of it.
-fn push_explained(
+pub(crate) fn push_explained<'a>(
     out: &mut Vec<u8>,
     text: &[u8],
     spans: &[Span],
-    effects: &[EffectLine],
-    located: &Located,
+    effects: &ToldEffects<'a>,
+    located: &'a Located,
     line: AnswerLine,
     written: &[u8],
     holder: Option<u32>,
 ) -> Result<(), Memory>
     requires spans { AreSpans text.now spans.now }
-    requires effects { effects.now ≡ task_effects text.now }
+    requires effects { AreTold text.now effects.now }
     requires written { written.now ≡ answer_line line }
     ensures { OnOk result (out.new.items ≡ out.old.items ++ (answer_line line ++ sentences_behind text.now located.now holder line)) }
 {
     push(out, written)?;
     push_sentences(out, text, spans, effects, located, line, holder)
-}
-
-/// Explains the lines of an answer, one after the other.
-pub(crate) fn explained_lines(
-    alloc: Global,
-    text: &[u8],
-    located: &Located,
-    lines: &[ReadLine<'_>],
-) -> Result<Vec<u8>, Memory>
-    requires written { All IsWritten lines.now }
-    requires are { All (IsLineOf located.now) (lines_in lines.now) }
-    ensures { IfOk result (λ out. out.items ≡ lines_and_sentences text.now located.now (lines_in lines.now)) }
-{
-    let last = last_grants(alloc, located, lines)?;
-    let found = line_spans(alloc, text)?;
-    let spans = found.as_slice();
-    let declared = effect_lines(alloc, text)?;
-    let effects = declared.as_slice();
-    let mut out = Vec::new(alloc);
-    for read in lines {
-        let holder = holder_on(last.as_slice(), read.line);
-        push_explained(
-            &mut out,
-            text,
-            spans,
-            effects,
-            located,
-            read.line,
-            read.written,
-            holder,
-        )?;
-    }
-    Ok(out)
 }

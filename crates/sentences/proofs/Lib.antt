@@ -1,10 +1,13 @@
 pub mod CauseLemmas
 pub mod ClaimLemmas
 pub mod EffectLemmas
+pub mod FamilyLemmas
 pub mod NameLemmas
+pub mod OperandLemmas
 pub mod OriginLemmas
 pub mod OthersLemmas
 pub mod RangeLemmas
 pub mod Spans
 pub mod TableClaims
+pub mod ToldLemmas
 pub mod WordsLemmas

@@ -29,6 +29,11 @@ pub record IsPlainlyFree (a : Access) (core : ℕ) (tasks : List TaskDecl) (w : 
   pub unguarded : (t : TaskDecl) (lock : ℕ) → IsAmong tasks t → task_guards t lock w ≡ false
   pub apart : (t : TaskDecl) → IsAmong tasks t → t.core.0 ≢ core → UsesPlainlySo a t w → ⊥
 
+-- no lock guards the word, and no task stores to it plainly: so it conflicts with nothing that some tasks load it plainly
+pub record MayAllLoad (tasks : List TaskDecl) (w : ℕ) : Type 0 where
+  pub unguarded : (t : TaskDecl) (lock : ℕ) → IsAmong tasks t → task_guards t lock w ≡ false
+  pub unwritten : (t : TaskDecl) → IsAmong tasks t → has t.effects.writes w ≡ false
+
 -- a task declares the word by the plain effect for such an access; or by the effect for it under a lock
 abbrev pub DeclaresPlainly : Access → TaskDecl → ℕ → Type 0
 DeclaresPlainly Load t w = has t.effects.reads w ≡ true

@@ -20,6 +20,10 @@ use Rattle.sentences.specs.Elsewhere.{instead, word_elsewhere}
 use Rattle.sentences.specs.declared.examples.Form.{Form}
 use Rattle.sentences.specs.declared.examples.Form as form
 use Rattle.sentences.specs.Examples.{operands_as}
+use Rattle.sentences.specs.declared.wrong_operands.OperandSort.{OperandSort}
+use Rattle.sentences.specs.declared.wrong_operands.OperandSort as operand
+use Rattle.sentences.specs.declared.wrong_operands.WrongOperand.{WrongOperand}
+use Rattle.src_text.specs.declared.token.Span.{Span}
 use Rattle.sentences.specs.Findings.{finding_of}
 use Rattle.sentences.specs.Others.{others}
 
@@ -92,14 +96,25 @@ abbrev pub word_amendment : SourceFault → Option Elsewhere → List ℕ
 word_amendment f None = amendment f
 word_amendment f (Some w) = instead w
 
+-- the word of the statement whose operands are wrong
+abbrev pub word_by : Span → Cause → Span
+word_by p (cause.TheVariants.Operand word w f) = word
+word_by p _ = p
+
+abbrev pub word_part : Finding → Span
+word_part x = word_by x.part x.cause
+
+abbrev pub span_between : List ℕ → Span → List ℕ
+span_between bytes p = bytes_between bytes p.start p.end
+
 -- how to mend it, by what is wrong with a part of the line, if that is known
 abbrev pub finding_amendment : SourceFault → List ℕ → Option Finding → List ℕ
 finding_amendment (fault.TheVariants.OutOfRange line) bytes (Some x) = range_amendment x.cause
 finding_amendment (fault.TheVariants.Misplaced line) bytes (Some x) = place_amendment x.cause
 finding_amendment (fault.TheVariants.UnknownWord line) bytes (Some x) =
-    word_amendment (fault.TheVariants.UnknownWord line) (word_elsewhere (bytes_between bytes x.part.start x.part.end))
+    word_amendment (fault.TheVariants.UnknownWord line) (word_elsewhere (span_between bytes (word_part x)))
 finding_amendment (fault.TheVariants.BadOperand line) bytes (Some x) =
-    word_amendment (fault.TheVariants.BadOperand line) (word_elsewhere (bytes_between bytes x.part.start x.part.end))
+    word_amendment (fault.TheVariants.BadOperand line) (word_elsewhere (span_between bytes (word_part x)))
 finding_amendment f bytes x = amendment f
 
 unfoldable pub indented_line : List ℕ → ℕ → List ℕ
@@ -135,6 +150,30 @@ form_text f = example_text f
 abbrev pub operands_text : Option Form → List ℕ
 operands_text None = codes " has other operands than these."
 operands_text (Some f) = form_text f
+
+-- what an operand is, or is to be
+abbrev pub operand_sort_text : OperandSort → List ℕ
+operand_sort_text operand.TheVariants.Register = codes "a register"
+operand_sort_text operand.TheVariants.Number = codes "a number"
+operand_sort_text operand.TheVariants.Name = codes "a name"
+operand_sort_text operand.TheVariants.Based = codes "an offset with a register in parentheses"
+
+unfoldable pub found_text : OperandSort → List ℕ
+found_text s = codes ". It is " ++ operand_sort_text s
+
+abbrev pub found_if : Option OperandSort → List ℕ
+found_if None = []
+found_if (Some s) = found_text s
+
+unfoldable pub wanted_operand : OperandSort → Form → List ℕ
+wanted_operand s f = codes ", and " ++ operand_sort_text s ++ codes " is wanted, as in `" ++ operands_as f ++ codes "`."
+
+unfoldable pub is_operand : List ℕ
+is_operand = codes " is operand "
+
+-- which operand is wrong, what it is, and what is wanted in its place
+unfoldable pub operand_text : WrongOperand → Form → List ℕ
+operand_text w f = is_operand ++ decimal w.number ++ found_if w.found ++ wanted_operand w.wanted f
 
 unfoldable pub bound_text : ℤ → List ℕ
 bound_text z = signed_decimal z
@@ -209,6 +248,7 @@ plain_cause _ = []
 -- what is wrong with a part of the line; the sentence begins with the part
 abbrev pub cause_text : Cause → List ℕ
 cause_text (cause.TheVariants.Operands f) = operands_text f
+cause_text (cause.TheVariants.Operand word w f) = operand_text w f
 cause_text (cause.TheVariants.Range low high) = range_text low high
 cause_text (cause.TheVariants.Offset low high) = offset_text low high
 cause_text (cause.TheVariants.Index words) = index_text words

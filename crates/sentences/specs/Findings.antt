@@ -34,6 +34,9 @@ use Rattle.sentences.specs.declared.findings.Wanted as wanted
 use Rattle.sentences.specs.declared.findings.Want.{Want}
 use Rattle.sentences.specs.Marks.{part_by, bad_place_from, is_high}
 use Rattle.sentences.specs.Examples.{line_alone, form_for}
+use Rattle.sentences.specs.Operands.{sorts_of, wrong_among}
+use Rattle.sentences.specs.declared.examples.Form.{Form}
+use Rattle.sentences.specs.declared.wrong_operands.WrongOperand.{WrongOperand}
 use Rattle.src_text.specs.Lexeme.{is_bad_number, lexemes_of, span_of}
 use Rattle.sentences.specs.Known.{known_in}
 use Rattle.sentences.specs.declared.standing.Standing.{Standing}
@@ -241,14 +244,23 @@ at_word_if ts (Some c) = at_word c ts
 unfoldable pub limit_at : List Token → Statement → Option Finding
 limit_at ts s = at_word_if ts (excess s)
 
--- in place of the statement's word there is something else, or the operands are wrong
-abbrev pub word_or_operands : ℕ → List ℕ → Token → Cause
-word_or_operands version bytes t =
-    if is_name t.kind then cause.TheVariants.Operands (form_for version (bytes_of bytes t)) else cause.TheVariants.NoWord
+-- the operand that is wrong, if one alone is; otherwise the word, which takes operands of the form
+abbrev pub operand_or_word : Token → Form → Option WrongOperand → Finding
+operand_or_word t f None = finding_at (cause.TheVariants.Operands (Some f)) t
+operand_or_word t f (Some w) = record { part = w.part; cause = cause.TheVariants.Operand (part_by t) w f }
 
-abbrev pub at_first : ℕ → List ℕ → Option Token → Option Finding
-at_first version bytes None = None
-at_first version bytes (Some t) = Some (finding_at (word_or_operands version bytes t) t)
+abbrev pub operands_finding : ℕ → List ℕ → Token → List Token → Option Form → Finding
+operands_finding version bytes t ts None = finding_at (cause.TheVariants.Operands None) t
+operands_finding version bytes t ts (Some f) = operand_or_word t f (wrong_among version bytes 1 (sorts_of f) ts)
+
+-- in place of the statement's word there is something else, or the operands are wrong
+abbrev pub word_or_operands : ℕ → List ℕ → Token → List Token → Finding
+word_or_operands version bytes t ts =
+    if is_name t.kind then operands_finding version bytes t ts (form_for version (bytes_of bytes t)) else finding_at cause.TheVariants.NoWord t
+
+abbrev pub at_first : ℕ → List ℕ → List Token → Option Finding
+at_first version bytes [] = None
+at_first version bytes (t ∷ ts) = Some (word_or_operands version bytes t ts)
 
 -- the label that may not be declared, if the line has one
 abbrev pub dotted_label : List ℕ → List Token → Option Token
@@ -257,10 +269,11 @@ dotted_label bytes (t ∷ []) = None
 dotted_label bytes (t ∷ u ∷ ts) = if is_name t.kind && is_colon u.kind && not (is_plain bytes t) then Some t else None
 
 abbrev pub label_or_statement : ℕ → List ℕ → List Token → Option Token → Option Finding
-label_or_statement version bytes ts None = at_first version bytes (slice_get (behind_label ts) 0)
+label_or_statement version bytes ts None = at_first version bytes (behind_label ts)
 label_or_statement version bytes ts (Some t) = Some (finding_at cause.TheVariants.Dotted t)
 
--- a label that may not be declared, what stands in the place of the statement's word, or a word whose operands are others
+-- a label that may not be declared, what stands in the place of the statement's word, an operand that is wrong, or a word whose
+-- operands are others
 unfoldable pub operand_at : ℕ → List ℕ → List Token → Option Finding
 operand_at version bytes ts = label_or_statement version bytes ts (dotted_label bytes ts)
 

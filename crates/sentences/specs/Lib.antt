@@ -5,11 +5,13 @@ pub mod Effects
 pub mod Elsewhere
 pub mod Endings
 pub mod Examples
+pub mod Families
 pub mod Faults
 pub mod Findings
 pub mod Guards
 pub mod Known
 pub mod Marks
+pub mod Operands
 pub mod Origins
 pub mod Others
 pub mod Outside
@@ -18,4 +20,5 @@ pub mod Ranges
 pub mod Sites
 pub mod Standing
 pub mod TableClaims
+pub mod Told
 pub mod Uses

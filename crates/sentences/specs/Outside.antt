@@ -18,8 +18,10 @@ use Rattle.sentences.specs.declared.uses.OwnUse.{OwnUse}
 use Rattle.sentences.specs.declared.uses.OwnUse.TheVariants.{Free, Guarded, ReadUnder, ReadOnly, Undeclared}
 use Rattle.sentences.specs.declared.others_use.Others.{Others}
 use Rattle.sentences.specs.declared.others_use.Others.TheVariants.{Guarding, Contending, Reading, Nobody}
+use Rattle.sentences.specs.declared.families.TaskFamily.{TaskFamily}
 use Rattle.sentences.specs.Conflicts.{core_text}
 use Rattle.sentences.specs.Effects.{declared_text}
+use Rattle.sentences.specs.Families.{family_of}
 use Rattle.sentences.specs.Sites.{site_of, name_of, len_of, lock_name}
 use Rattle.sentences.specs.Uses.{own_use, others_in}
 
@@ -45,6 +47,28 @@ or_mended = codes "`, or mend the address." ++ newline
 
 unfoldable pub plain_remedy : ProgramParts → Access → WordPlace → List ℕ
 plain_remedy p a place = declare_it ++ plain_effect a ++ operands_of p place ++ or_mended
+
+unfoldable pub family_text : TaskFamily → List ℕ
+family_text f = codes "  Line " ++ decimal f.line ++ codes " declares " ++ decimal f.tasks ++ codes " tasks, and an effect behind it is one of each of them.\n"
+
+-- two tasks of a family that may store to the same word conflict
+unfoldable pub own_words : List ℕ
+own_words = codes "  Two tasks that may store to the same word conflict: give each a word of its own by a step, as in `.writes "
+
+unfoldable pub by_step : List ℕ
+by_step = codes ", 0, 1, 1`, or mend the address.\n"
+
+unfoldable pub step_remedy : ProgramParts → WordPlace → List ℕ
+step_remedy p place = own_words ++ name_of (slice_get p.regions place.region) ++ by_step
+
+abbrev pub shared_remedy : ProgramParts → Access → WordPlace → List ℕ
+shared_remedy p Load place = plain_remedy p Load place
+shared_remedy p Store place = step_remedy p place
+
+-- an effect for a task, which is one of a family or alone on its line
+abbrev pub effect_remedy : ProgramParts → Access → WordPlace → Option TaskFamily → List ℕ
+effect_remedy p a place None = plain_remedy p a place
+effect_remedy p a place (Some f) = family_text f ++ shared_remedy p a place
 
 -- a guarded effect, and what else is to be done
 unfoldable pub guarded_remedy : ProgramParts → Access → ℕ → WordPlace → List ℕ → List ℕ
@@ -90,11 +114,11 @@ reading_text l phase core = used_text l phase core loads_it
 unfoldable pub nobody_text : List ℕ
 nobody_text = codes "  No other task of the phase declares it.\n"
 
-abbrev pub others_text : Located → ℕ → Access → WordPlace → Others → List ℕ
-others_text l phase a place (Guarding g) = guarding_text l phase g.core g.lock ++ guarded_remedy l.program a g.lock place and_acquired
-others_text l phase a place (Contending core) = used_text l phase core uses_it ++ apart_remedy
-others_text l phase a place (Reading core) = reading_text l phase core ++ plain_remedy l.program a place
-others_text l phase a place Nobody = nobody_text ++ plain_remedy l.program a place
+abbrev pub others_text : Located → ℕ → ℕ → Access → WordPlace → Others → List ℕ
+others_text l phase core a place (Guarding g) = guarding_text l phase g.core g.lock ++ guarded_remedy l.program a g.lock place and_acquired
+others_text l phase core a place (Contending other) = used_text l phase other uses_it ++ apart_remedy
+others_text l phase core a place (Reading other) = reading_text l phase other ++ effect_remedy l.program a place (family_of l.places phase core)
+others_text l phase core a place Nobody = nobody_text ++ effect_remedy l.program a place (family_of l.places phase core)
 
 -- ---- what the task declares
 
@@ -129,8 +153,8 @@ own_text l phase core a w place Free = free_text
 own_text l phase core a w place (Guarded lock) = under_text l.program lock not_held ++ acquire_remedy lock
 own_text l phase core a w place (ReadUnder lock) =
     read_under_text l.program lock ++ held_remedy l.program a lock place
-own_text l phase core a w place ReadOnly = read_only_text ++ others_text l phase a place (others_in l.program phase a core w)
-own_text l phase core a w place Undeclared = undeclared_text ++ others_text l phase a place (others_in l.program phase a core w)
+own_text l phase core a w place ReadOnly = read_only_text ++ others_text l phase core a place (others_in l.program phase a core w)
+own_text l phase core a w place Undeclared = undeclared_text ++ others_text l phase core a place (others_in l.program phase a core w)
 
 abbrev pub word_sentences : List ℕ → Located → ℕ → ℕ → Access → ℕ → WordPlace → Option TaskDecl → List ℕ
 word_sentences text l phase core a w place None = []

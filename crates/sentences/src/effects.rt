@@ -1,11 +1,13 @@
 //! The lines on which effects stand, and what a task declares of a region by them.
-ghost use Rattle.std.specs.Prelude.{◌≡◌, ◌≤◌, ◌++◌, length, map, filter, flat_map, is_none, slice_get, neg_ℤ, pos, ◌≤ℤ◌, ◌<ℤ◌, ◌+ℤ◌, IfOk, OnOk};
+ghost use Rattle.std.specs.Prelude.{◌≡◌, ℕ, ◌≤◌, ◌++◌, List, length, map, is_none, slice_get, neg_ℤ, pos, ◌≤ℤ◌, ◌<ℤ◌, ◌+ℤ◌, IfOk, OnOk};
 ghost use Rattle.rv_assembler.specs.Reading.{reading_of};
 ghost use Rattle.text_places.specs.Texts.{indexed};
-ghost use Rattle.sentences.specs.Effects.{effect_on, effects_said, effects_behind, readings_effects, task_effects, is_of_task, bound_of, interval_bounds, moved_between, bounds_of, last_word, interval_text, effect_word, lock_operand, line_declares, by_effect, given_words, effect_text, more_effects, some_effects, declared_text};
+ghost use Rattle.sentences.specs.Effects.{effect_on, effects_said, effects_behind, readings_effects, task_effects, told_of_region, bound_of, interval_bounds, moved_between, bounds_of, last_word, interval_text, effect_word, lock_operand, line_declares, by_effect, given_words, effect_text, more_effects, declared_text};
+ghost use Rattle.sentences.specs.Told.{told_of, AreTold, effect_if, told_text};
 
-use crate::claims::{family_behind, moved_for, moved_to, names_region, token_bytes};
+use crate::claims::{family_behind, moved_for, moved_to, token_bytes};
 use crate::sites::{len_of, name_of};
+use crate::told::{NOTHING, Told, ToldEffects};
 use dn_base::{MOST_OF_TEXT, Memory, Sequence};
 use region_table::Program;
 use rv_assembler::{Effect, Extent, Reading, Statement, read_line, version_line};
@@ -20,7 +22,7 @@ const MOST_TOLD: usize = 3;
 
 /// A line with an effect, and the line of the tasks behind which it stands.
 #[derive(Clone, Copy)]
-pub struct EffectLine {
+pub(crate) struct EffectLine {
     pub(crate) family: u32,
     pub(crate) line: u32,
     pub(crate) effect: Effect,
@@ -89,51 +91,14 @@ fn effects_of(alloc: Global, text: &[u8]) -> Result<Sequence<EffectLine>, Memory
     effects_among(alloc, text, version_line(text, lines), lines)
 }
 
-/// The lines of a text that have effects: to be found once for all that is said of the text's tasks.
-///
-/// # Errors
-/// `Memory` if there is no room.
-pub fn effect_lines(alloc: Global, text: &[u8]) -> Result<Sequence<EffectLine>, Memory>
+/// The lines of a text that have effects.
+pub(crate) fn effect_lines(alloc: Global, text: &[u8]) -> Result<Sequence<EffectLine>, Memory>
     ensures { IfOk result (λ effects. effects ≡ task_effects text.now) }
 {
     if MOST_OF_TEXT < text.len() {
         return Ok(Sequence::new(alloc));
     }
     effects_of(alloc, text)
-}
-
-/// Whether a line has an effect of the task on the region of this number.
-fn is_of_task(
-    text: &[u8],
-    program: &Program,
-    task: TaskPlace,
-    region: usize,
-    line: EffectLine,
-) -> bool
-    ensures { result ≡ is_of_task text.now program.now task region line }
-{
-    line.family == task.line
-        && names_region(text, line.effect.region, program.regions.as_slice(), region)
-}
-
-/// The lines among these that have effects of the task on the region of this number.
-fn declared_among(
-    alloc: Global,
-    text: &[u8],
-    program: &Program,
-    task: TaskPlace,
-    region: usize,
-    effects: &[EffectLine],
-) -> Result<Vec<EffectLine>, Memory>
-    ensures { IfOk result (λ lines. lines.items ≡ filter (is_of_task text.now program.now task region) effects.now) }
-{
-    let mut lines = Vec::new(alloc);
-    for line in effects {
-        if is_of_task(text, program, task, region, *line) {
-            lines.push(*line)?;
-        }
-    }
-    Ok(lines)
 }
 
 fn bound_of(bound: i128) -> u32
@@ -281,20 +246,20 @@ fn push_effect(
     push_by_effect(out, text, line.effect)
 }
 
-fn push_effects(
+fn push_effect_if(
     out: &mut Vec<u8>,
     text: &[u8],
     program: &Program,
     task: TaskPlace,
     region: usize,
-    lines: &[EffectLine],
+    line: Option<EffectLine>,
 ) -> Result<(), Memory>
-    ensures { OnOk result (out.new.items ≡ out.old.items ++ flat_map (effect_text text.now program.now task region) lines.now) }
+    ensures { OnOk result (out.new.items ≡ out.old.items ++ effect_if text.now program.now task region line) }
 {
-    for line in lines {
-        push_effect(out, text, program, task, region, *line)?;
+    match line {
+        Some(line) => push_effect(out, text, program, task, region, line),
+        None => Ok(()),
     }
-    Ok(())
 }
 
 #[tactic(auto, unfolding(crate::specs::Effects::more_effects))]
@@ -309,46 +274,54 @@ fn push_more_effects(out: &mut Vec<u8>, number: usize) -> Result<(), Memory>
     push(out, b" more\n")
 }
 
-/// Adds the first three of the lines, and how many more there are.
-#[tactic(auto, unfolding(crate::specs::Effects::some_effects))]
-fn push_some_effects(
+/// Adds the lines that are told, and how many more there are.
+fn push_told(
     out: &mut Vec<u8>,
     text: &[u8],
     program: &Program,
     task: TaskPlace,
     region: usize,
-    lines: &[EffectLine],
+    told: Told,
 ) -> Result<(), Memory>
-    ensures { OnOk result (out.new.items ≡ out.old.items ++ some_effects text.now program.now task region lines.now) }
+    ensures { OnOk result (out.new.items ≡ out.old.items ++ told_text text.now program.now task region told) }
 {
-    push_effects(
-        out,
-        text,
-        program,
-        task,
-        region,
-        &lines[..lines.len().min(MOST_TOLD)],
-    )?;
-    push_more_effects(out, lines.len().saturating_sub(MOST_TOLD))
+    push_effect_if(out, text, program, task, region, told.first)?;
+    push_effect_if(out, text, program, task, region, told.second)?;
+    push_effect_if(out, text, program, task, region, told.third)?;
+    push_more_effects(out, told.count.saturating_sub(MOST_TOLD))
+}
+
+/// What is told of the effects of a task on the region of this number.
+fn told_of_region<'a>(
+    program: &'a Program,
+    task: TaskPlace,
+    region: usize,
+    effects: &ToldEffects<'a>,
+) -> Told
+    ensures { (text : List ℕ) → AreTold text effects.now → result ≡ told_of (told_of_region text program.now task region) }
+{
+    match program.regions.get(region) {
+        Some(found) => effects.told(task.line, found.name.bytes()),
+        None => NOTHING,
+    }
 }
 
 /// Adds what a task declares of the region of this number.
-pub(crate) fn push_declared_effects(
+pub(crate) fn push_declared_effects<'a>(
     out: &mut Vec<u8>,
     text: &[u8],
-    program: &Program,
+    program: &'a Program,
     task: Option<TaskPlace>,
     region: usize,
-    effects: &[EffectLine],
+    effects: &ToldEffects<'a>,
 ) -> Result<(), Memory>
-    requires { effects.now ≡ task_effects text.now }
+    requires { AreTold text.now effects.now }
     ensures { OnOk result (out.new.items ≡ out.old.items ++ declared_text text.now program.now task region) }
 {
     match task {
         Some(task) => {
-            let alloc = *out.allocator();
-            let lines = declared_among(alloc, text, program, task, region, effects)?;
-            push_some_effects(out, text, program, task, region, lines.as_slice())
+            let told = told_of_region(program, task, region, effects);
+            push_told(out, text, program, task, region, told)
         }
         None => Ok(()),
     }

@@ -1,11 +1,11 @@
 //! Sentences on how a task stands at the end of a run.
 ghost use Rattle.std.specs.Prelude.{◌≡◌, ◌++◌, OnOk};
 ghost use Rattle.sentences.specs.Quotes.{AreSpans};
-ghost use Rattle.sentences.specs.Effects.{task_effects};
+ghost use Rattle.sentences.specs.Told.{AreTold};
 ghost use Rattle.sentences.specs.Endings.{which_line, declares_word, the_task, declared_by_line, declared_text, task_text, code_place_at, stands_at, line_at, fuel_remedy, out_of_fuel, fuel_text, not_given_up, holds_it, holder_untold, holder_text, wait_remedy, wait_text, ending_text};
 
-use crate::effects::EffectLine;
 use crate::quotes::push_line;
+use crate::told::ToldEffects;
 use crate::traps::push_trap;
 use dn_base::Memory;
 use region_table::{FIRST_CODE_ADDRESS, Program};
@@ -205,21 +205,21 @@ fn push_wait_remedy(out: &mut Vec<u8>) -> Result<(), Memory>
 
 /// Appends the sentences on how a task of the text's program stands at the end of a run; nothing if it has finished.
 ///
-/// `spans` are the places of the text's lines, and `effects` those of them that have effects. `holder` is the core whose task holds the lock that this task waits for; None if that isn't known, or the task doesn't wait.
+/// `spans` are the places of the text's lines, and `effects` what its tasks declare. `holder` is the core whose task holds the lock that this task waits for; None if that isn't known, or the task doesn't wait.
 ///
 /// # Errors
 /// `Memory` if there is no room; the text may have a part of the sentences then.
-pub fn push_ending(
+pub fn push_ending<'a>(
     out: &mut Vec<u8>,
     text: &[u8],
     spans: &[Span],
-    effects: &[EffectLine],
-    located: &Located,
+    effects: &ToldEffects<'a>,
+    located: &'a Located,
     task: TaskEnd,
     holder: Option<u32>,
 ) -> Result<(), Memory>
     requires spans { AreSpans text.now spans.now }
-    requires effects { effects.now ≡ task_effects text.now }
+    requires effects { AreTold text.now effects.now }
     ensures { OnOk result (out.new.items ≡ out.old.items ++ ending_text text.now located.now holder task) }
 {
     let (phase, core) = (task.phase.0, task.core.0);

@@ -83,7 +83,7 @@ pub(crate) fn operands_as(form: Form) -> &'static [u8]
 
 /// Whether the bytes by themselves are a line of good form. The version is 0 for version 1.
 #[tactic(auto, unfolding(crate::specs::Examples::is_taken))]
-fn is_taken(alloc: Global, version: u32, bytes: &[u8]) -> Result<bool, Memory>
+pub(crate) fn is_taken(alloc: Global, version: u32, bytes: &[u8]) -> Result<bool, Memory>
     ensures { IfOk result (λ taken. taken ≡ is_taken version bytes.now) }
 {
     if MOST_OF_LINE < bytes.len() {

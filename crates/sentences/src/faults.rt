@@ -1,11 +1,12 @@
 //! Sentences on what is wrong with a part of a line.
 ghost use Rattle.std.specs.Prelude.{◌≡◌, ◌++◌, OnOk};
-ghost use Rattle.sentences.specs.Faults.{sort_text, wanted_text, has_operands, example_text, form_text, operands_text, bound_text, bounds_text, isnt_number, is_too_far, range_text, offset_text, index_text, interval_text, declared_as, again_text, wants_core_of, has_task_there, taken_text, is_wanted, undeclared_text, unfit_text, plain_cause, cause_text, finding_text};
+ghost use Rattle.sentences.specs.Faults.{sort_text, wanted_text, has_operands, example_text, form_text, operands_text, operand_sort_text, found_text, found_if, wanted_operand, is_operand, operand_text, bound_text, bounds_text, isnt_number, is_too_far, range_text, offset_text, index_text, interval_text, declared_as, again_text, wants_core_of, has_task_there, taken_text, is_wanted, undeclared_text, unfit_text, plain_cause, cause_text, finding_text};
 
 use crate::examples::{Form, operands_as};
 use crate::findings::{Cause, Finding, Wanted};
 use crate::known::Sort;
 use crate::marks::{push_mark_line, push_part};
+use crate::wrong_operands::{OperandSort, WrongOperand};
 use dn_base::Memory;
 use text_pieces::{push, push_decimal, push_long, push_signed};
 
@@ -64,6 +65,64 @@ fn push_operands(out: &mut Vec<u8>, form: Option<Form>) -> Result<(), Memory>
         Some(form) => push_form(out, form),
         None => push(out, b" has other operands than these."),
     }
+}
+
+/// What an operand is, or is to be.
+fn operand_sort_text(sort: OperandSort) -> &'static [u8]
+    ensures { result.now ≡ operand_sort_text sort }
+{
+    match sort {
+        OperandSort::Register => b"a register",
+        OperandSort::Number => b"a number",
+        OperandSort::Name => b"a name",
+        OperandSort::Based => b"an offset with a register in parentheses",
+    }
+}
+
+#[tactic(auto, unfolding(crate::specs::Faults::found_text))]
+fn push_found(out: &mut Vec<u8>, sort: OperandSort) -> Result<(), Memory>
+    ensures { OnOk result (out.new.items ≡ out.old.items ++ found_text sort) }
+{
+    push(out, b". It is ")?;
+    push(out, operand_sort_text(sort))
+}
+
+fn push_found_if(out: &mut Vec<u8>, sort: Option<OperandSort>) -> Result<(), Memory>
+    ensures { OnOk result (out.new.items ≡ out.old.items ++ found_if sort) }
+{
+    match sort {
+        Some(sort) => push_found(out, sort),
+        None => Ok(()),
+    }
+}
+
+#[tactic(auto, unfolding(crate::specs::Faults::wanted_operand))]
+fn push_wanted_operand(out: &mut Vec<u8>, sort: OperandSort, form: Form) -> Result<(), Memory>
+    ensures { OnOk result (out.new.items ≡ out.old.items ++ wanted_operand sort form) }
+{
+    push(out, b", and ")?;
+    push(out, operand_sort_text(sort))?;
+    push(out, b" is wanted, as in `")?;
+    push(out, operands_as(form))?;
+    push(out, b"`.")
+}
+
+#[tactic(auto, unfolding(crate::specs::Faults::is_operand))]
+fn push_is_operand(out: &mut Vec<u8>) -> Result<(), Memory>
+    ensures { OnOk result (out.new.items ≡ out.old.items ++ is_operand) }
+{
+    push(out, b" is operand ")
+}
+
+/// Adds which operand is wrong, what it is, and what is wanted in its place.
+#[tactic(auto, unfolding(crate::specs::Faults::operand_text))]
+fn push_operand(out: &mut Vec<u8>, wrong: WrongOperand, form: Form) -> Result<(), Memory>
+    ensures { OnOk result (out.new.items ≡ out.old.items ++ operand_text wrong form) }
+{
+    push_is_operand(out)?;
+    push_decimal(out, wrong.number)?;
+    push_found_if(out, wrong.found)?;
+    push_wanted_operand(out, wrong.wanted, form)
 }
 
 #[tactic(auto, unfolding(crate::specs::Faults::bound_text))]
@@ -241,6 +300,7 @@ fn push_cause(out: &mut Vec<u8>, cause: Cause) -> Result<(), Memory>
 {
     match cause {
         Cause::Operands { form } => push_operands(out, form),
+        Cause::Operand { wrong, form, .. } => push_operand(out, wrong, form),
         Cause::Range { low, high } => push_range(out, low, high),
         Cause::Offset { low, high } => push_offset(out, low, high),
         Cause::Index { words } => push_index(out, words),

@@ -14,6 +14,7 @@ use crate::operands::{
     at_interval, at_number, at_word, code_out_of_range, limit_at, operand_at, tasks_out_of_range,
 };
 use crate::standing::{Standing, standing_in};
+use crate::wrong_operands::WrongOperand;
 use dn_base::{MOST_OF_TEXT, Memory};
 use rv_assembler::{
     Code, Effect, Reading, Saying, SourceFault, Statement, read_line, version_line,
@@ -52,6 +53,12 @@ pub(crate) enum Cause {
     /// It is a word that takes other operands, of this form.
     Operands {
         form: Option<Form>,
+    },
+    /// It is an operand of the word `word`, which takes operands of the form, and is another than the word takes.
+    Operand {
+        word: Span,
+        wrong: WrongOperand,
+        form: Form,
     },
     /// It is no number of 32 bits.
     NoNumber,

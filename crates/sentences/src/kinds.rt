@@ -1,6 +1,6 @@
 //! What is said of each kind of fault.
 ghost use Rattle.std.specs.Prelude.{◌≡◌};
-ghost use Rattle.sentences.specs.Faults.{faulty_line, complaint, amendment, range_amendment, place_amendment, word_amendment, finding_amendment};
+ghost use Rattle.sentences.specs.Faults.{faulty_line, complaint, amendment, range_amendment, place_amendment, word_amendment, word_part, finding_amendment};
 
 use crate::elsewhere::{Elsewhere, instead, word_elsewhere};
 use crate::findings::{Cause, Finding};
@@ -126,6 +126,16 @@ fn word_amendment(fault: SourceFault, word: Option<Elsewhere>) -> &'static [u8]
     }
 }
 
+/// The word of the statement whose operands are wrong; otherwise the part that is wrong.
+fn word_part(finding: Finding) -> Span
+    ensures { result ≡ word_part finding }
+{
+    match finding.cause {
+        Cause::Operand { word, .. } => word,
+        _ => finding.part,
+    }
+}
+
 /// How to fix it, by what is wrong with a part of the line, if that is known.
 pub(crate) fn finding_amendment(
     fault: SourceFault,
@@ -137,7 +147,7 @@ pub(crate) fn finding_amendment(
     let Some(finding) = finding else {
         return amendment(fault);
     };
-    let Span { start, end } = finding.part;
+    let Span { start, end } = word_part(finding);
     match fault {
         SourceFault::OutOfRange { .. } => range_amendment(finding.cause),
         SourceFault::Misplaced { .. } => place_amendment(finding.cause),

@@ -1,5 +1,5 @@
 //! Theorems: what holds of effects and claims. A theorem is a function without effect; its contract states the theorem.
-ghost use Rattle.std.specs.Prelude.{◌≡◌, ◌≢◌, ◌+◌, ◌<◌, ◌≤◌, ◌&&◌, nat_le, nat_lt, ◌+ℤ◌, ℕ, ℤ, Option, None, not, slice_get, pos, int_le, int_lt, true, false, List, Some, Ok};
+ghost use Rattle.std.specs.Prelude.{◌≡◌, ◌≢◌, ◌+◌, ◌<◌, ◌≤◌, ◌&&◌, nat_le, nat_lt, ◌+ℤ◌, ℕ, ℤ, Option, None, not, find, drop, slice_get, pos, int_le, int_lt, true, false, List, Some, Ok};
 ghost use Rattle.std.specs.List.{IsAmong};
 ghost use Rattle.region_table.specs.Program.{ProgramParts};
 ghost use Rattle.effect_checker.specs.declared.fault.CheckFault.{CheckFault};
@@ -37,14 +37,22 @@ ghost use Rattle.rv_assembler.specs.Number.{is_within};
 ghost use Rattle.rv_assembler.specs.Tables.{region_at, lock_name_at, tasks_at};
 ghost use Rattle.text_places.specs.declared.places.TaskPlace.{TaskPlace as TaskPlaceOf};
 ghost use Rattle.text_places.specs.Places.{own_line, task_place, phase_row};
-ghost use Rattle.sentences.specs.declared.findings.Cause.TheVariants.{Range, Index, Interval};
+ghost use Rattle.sentences.specs.declared.findings.Cause.TheVariants.{Range, Index, Interval, Operand};
 ghost use Rattle.sentences.specs.declared.findings.Finding.{Finding as FindingOf};
 ghost use Rattle.sentences.specs.declared.known.Known.{Known as KnownOf};
-ghost use Rattle.sentences.specs.Findings.{code_out_of_range, out_of_range_at};
+ghost use Rattle.sentences.specs.Findings.{code_out_of_range, out_of_range_at, behind_label, operand_at};
+ghost use Rattle.sentences.specs.Operands.{IsWrongOperand};
+ghost use Rattle.sentences.specs.declared.examples.Form.{Form as FormOf};
+ghost use Rattle.sentences.specs.declared.wrong_operands.WrongOperand.{WrongOperand as WrongOperandOf};
+ghost use Rattle.src_text.specs.declared.token.Span.{Span as PartOf};
 ghost use Rattle.sentences.specs.Known.{known_in};
 ghost use Rattle.sentences.specs.Origins.{IsRowOfLine};
 ghost use Rattle.sentences.specs.Ranges.{tested_number, has_row, IsMeantAs};
-ghost use Rattle.sentences.specs.Causes.{IsUndeclaredBy, HasTask, UsesPlainlySo, IsPlainlyFree, DeclaresPlainly, DeclaresUnder};
+ghost use Rattle.sentences.specs.Causes.{IsUndeclaredBy, HasTask, UsesPlainlySo, IsPlainlyFree, DeclaresPlainly, DeclaresUnder, MayAllLoad};
+ghost use Rattle.sentences.specs.Families.{family_of};
+ghost use Rattle.sentences.specs.declared.uses.Access.TheVariants.{Load};
+ghost use Rattle.text_places.specs.declared.places.Places.{Places as PlacesOf};
+ghost use Rattle.text_places.specs.Words.{is_task_of};
 ghost use Rattle.sentences.specs.Claims.{extent_has, claim_has, claims_in, uses_so};
 ghost use Rattle.sentences.specs.declared.effects.EffectLine.{EffectLine as EffectLineOf};
 ghost use Rattle.sentences.specs.Effects.{bounds_of, told_of_region};
@@ -137,6 +145,16 @@ pub fn an_effect_named_as_remedy_gives_the_right()
     ensures guarded { (a : AccessOf) (d : TaskDecl) (held lock w : ℕ) → DeclaresUnder a lock d w → is_held held lock ≡ true → may_use a d held w ≡ true }
 {}
 
+/// An effect behind a line is one of each task that the line declares. A plain effect for stores is named only for a task that is
+/// alone on its line (`alone`). One for loads is named for each: no lock guards the word, and no task stores to it plainly, where
+/// the task itself doesn't (`loads`); so the check finds no conflict on the word, whichever tasks may load it.
+pub fn an_effect_named_as_remedy_suits_all_tasks_of_its_line()
+    ensures alone { (places : PlacesOf) (phase core : ℕ) (t u : TaskPlaceOf) → find (is_task_of phase core) places.tasks ≡ Some t → family_of places phase core ≡ None
+        → IsAmong places.tasks u → u.line ≡ t.line → u ≡ t }
+    ensures loads { (core : ℕ) (tasks : List TaskDecl) (w : ℕ) → IsPlainlyFree Load core tasks w
+        → ((t : TaskDecl) → IsAmong tasks t → t.core.0 ≡ core → has t.effects.writes w ≡ false) → MayAllLoad tasks w }
+{}
+
 /// The range that is named for a number of an instruction is the one that the language's definition tests: the line has the
 /// fault out-of-range exactly if the number isn't in it. The premise is that the instructions have such an instruction.
 pub fn a_named_range_is_the_tested_one()
@@ -178,4 +196,11 @@ pub fn each_part_comes_from_its_line()
         → IsRowOfLine phase_row own_line (sayings (readings text)) number line }
     ensures tasks { (text : List ℕ) (number : ℕ) (t : TaskPlaceOf) → slice_get (text_places text).tasks number ≡ Some t
         → IsRowOfLine (tasks_at text (meaning_of text (sayings (readings text)))) task_place (sayings (readings text)) number t }
+{}
+
+/// An operand that is named as wrong is the one with that number behind the statement's word, and it is the marked part of the
+/// line. The line is well formed where an example of what is wanted stands in its place.
+pub fn the_marked_operand_is_the_one_that_is_named()
+    ensures { (version : ℕ) (bytes : List ℕ) (ts : List Token) (x : FindingOf) (word : PartOf) (w : WrongOperandOf) (form : FormOf) → operand_at version bytes ts ≡ Some x
+        → x.cause ≡ Operand word w form → (x.part ≡ w.part) × IsWrongOperand version bytes (drop 1 (behind_label ts)) w }
 {}

@@ -1,5 +1,5 @@
 //! Parts of a line, and the mark under them.
-ghost use Rattle.std.specs.Prelude.{◌≡◌, ◌++◌, ◌+◌, ◌<◌, ◌≤◌, length, map, take, replicate, OnOk, IfSome};
+ghost use Rattle.std.specs.Prelude.{◌≡◌, ◌++◌, ◌+◌, ◌<◌, ◌≤◌, length, map, take, drop, replicate, OnOk, IfSome};
 ghost use Rattle.std.specs.Fmt.{decimal};
 ghost use Rattle.std.specs.List.{prefix_len};
 ghost use Rattle.src_text.specs.Byte.{is_bad};
@@ -37,6 +37,17 @@ pub(crate) fn first(bytes: &[u8], count: usize) -> &[u8]
         &bytes[..count]
     } else {
         bytes
+    }
+}
+
+/// The bytes behind the first `count`; none if there are no more.
+pub(crate) fn behind(bytes: &[u8], count: usize) -> &[u8]
+    ensures { result.now ≡ drop count bytes.now }
+{
+    if count <= bytes.len() {
+        &bytes[count..]
+    } else {
+        &bytes[..0]
     }
 }
 

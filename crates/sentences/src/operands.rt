@@ -2,20 +2,23 @@
 ghost use Rattle.std.specs.Prelude.{◌≡◌, option_map, slice_get, find, IfOk};
 ghost use Rattle.rv_isa.specs.Table.{is_shift};
 ghost use Rattle.rv_assembler.specs.Fault.{are_cores};
+ghost use Rattle.rv_assembler.specs.Operand.{bytes_of};
+ghost use Rattle.sentences.specs.Examples.{form_for};
 ghost use Rattle.rv_assembler.specs.Shape.{is_name, is_colon, is_plain};
-ghost use Rattle.sentences.specs.Findings.{behind_label, at_word, is_number_token, at_number, is_number_behind, interval_part, at_interval, at_range, at_offset, code_out_of_range, tasks_out_of_range, excess, at_word_if, limit_at, word_or_operands, at_first, dotted_label, operand_at};
+ghost use Rattle.sentences.specs.Findings.{behind_label, at_word, is_number_token, at_number, is_number_behind, interval_part, at_interval, at_range, at_offset, code_out_of_range, tasks_out_of_range, excess, at_word_if, limit_at, operand_or_word, operands_finding, word_or_operands, at_first, dotted_label, operand_at};
 
-use crate::examples::form_for;
+use crate::examples::{Form, form_for};
 use crate::findings::{Cause, Finding, finding_at};
 use crate::known::token_bytes;
 use crate::marks::part_by;
+use crate::wrong_operands::{WrongOperand, sorts_of, wrong_among};
 use dn_base::Memory;
 use rv_assembler::{Code, Family, Statement};
 use rv_isa::AluOp;
 use src_text::{Span, Token, TokenKind};
 use std::alloc::Global;
 
-fn is_name(token: Token) -> bool
+pub(crate) fn is_name(token: Token) -> bool
     ensures { result ≡ is_name token.kind }
 {
     matches!(token.kind, TokenKind::Name)
@@ -27,14 +30,14 @@ fn is_colon(token: Token) -> bool
     matches!(token.kind, TokenKind::Colon)
 }
 
-fn is_number(token: Token) -> bool
+pub(crate) fn is_number(token: Token) -> bool
     ensures { result ≡ is_number_token token }
 {
     matches!(token.kind, TokenKind::Number(_))
 }
 
 /// A name that may be declared: it doesn't begin with `.`.
-fn is_plain(bytes: &[u8], token: Token) -> bool
+pub(crate) fn is_plain(bytes: &[u8], token: Token) -> bool
     ensures { result ≡ is_plain bytes.now token }
 {
     is_name(token) && token_bytes(bytes, token).first().copied().unwrap_or(0) != b'.'
@@ -207,36 +210,72 @@ pub(crate) fn limit_at(tokens: &[Token], statement: &Statement) -> Option<Findin
     }
 }
 
+/// The operand that is wrong, if one alone is; otherwise the word.
+fn operand_or_word(word: Token, form: Form, wrong: Option<WrongOperand>) -> Finding
+    ensures { result ≡ operand_or_word word form wrong }
+{
+    match wrong {
+        Some(wrong) => Finding {
+            part: wrong.part,
+            cause: Cause::Operand {
+                word: part_by(word),
+                wrong,
+                form,
+            },
+        },
+        None => finding_at(Cause::Operands { form: Some(form) }, word),
+    }
+}
+
+/// What is wrong with the operands of a word.
+fn operands_finding(
+    alloc: Global,
+    version: u32,
+    bytes: &[u8],
+    word: Token,
+    operands: &[Token],
+) -> Result<Finding, Memory>
+    ensures { IfOk result (λ finding. finding ≡ operands_finding version bytes.now word operands.now (form_for version (bytes_of bytes.now word))) }
+{
+    match form_for(alloc, version, token_bytes(bytes, word))? {
+        Some(form) => {
+            let wrong = wrong_among(alloc, version, bytes, sorts_of(form), operands)?;
+            Ok(operand_or_word(word, form, wrong))
+        }
+        None => Ok(finding_at(Cause::Operands { form: None }, word)),
+    }
+}
+
 /// What stands in the place of the statement's word isn't one, or the operands are others.
 fn word_or_operands(
     alloc: Global,
     version: u32,
     bytes: &[u8],
-    token: Token,
-) -> Result<Cause, Memory>
-    ensures { IfOk result (λ cause. cause ≡ word_or_operands version bytes.now token) }
+    word: Token,
+    operands: &[Token],
+) -> Result<Finding, Memory>
+    ensures { IfOk result (λ finding. finding ≡ word_or_operands version bytes.now word operands.now) }
 {
-    if !is_name(token) {
-        return Ok(Cause::NoWord);
+    if is_name(word) {
+        operands_finding(alloc, version, bytes, word, operands)
+    } else {
+        Ok(finding_at(Cause::NoWord, word))
     }
-    let form = form_for(alloc, version, token_bytes(bytes, token))?;
-    Ok(Cause::Operands { form })
 }
 
 fn at_first(
     alloc: Global,
     version: u32,
     bytes: &[u8],
-    token: Option<Token>,
+    tokens: &[Token],
 ) -> Result<Option<Finding>, Memory>
-    ensures { IfOk result (λ finding. finding ≡ at_first version bytes.now token) }
+    ensures { IfOk result (λ finding. finding ≡ at_first version bytes.now tokens.now) }
 {
-    match token {
-        Some(token) => {
-            let cause = word_or_operands(alloc, version, bytes, token)?;
-            Ok(Some(finding_at(cause, token)))
-        }
-        None => Ok(None),
+    match tokens {
+        [word, operands @ ..] => Ok(Some(word_or_operands(
+            alloc, version, bytes, *word, operands,
+        )?)),
+        [] => Ok(None),
     }
 }
 
@@ -252,7 +291,8 @@ fn dotted_label(bytes: &[u8], tokens: &[Token]) -> Option<Token>
     }
 }
 
-/// A label that may not be declared, what stands in the place of the statement's word, or a word whose operands are others.
+/// A label that may not be declared, what stands in the place of the statement's word, an operand that is wrong, or a word whose
+/// operands are others.
 #[tactic(auto, unfolding(crate::specs::Findings::operand_at))]
 pub(crate) fn operand_at(
     alloc: Global,
@@ -264,6 +304,6 @@ pub(crate) fn operand_at(
 {
     match dotted_label(bytes, tokens) {
         Some(label) => Ok(Some(finding_at(Cause::Dotted, label))),
-        None => at_first(alloc, version, bytes, behind_label(tokens).first().copied()),
+        None => at_first(alloc, version, bytes, behind_label(tokens)),
     }
 }

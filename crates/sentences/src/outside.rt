@@ -1,14 +1,16 @@
 //! Sentences on a load or store that a task may not do.
 ghost use Rattle.std.specs.Prelude.{◌≡◌, ◌++◌, OnOk, slice_get};
 ghost use Rattle.region_table.specs.Tasks.{declared};
-ghost use Rattle.sentences.specs.Effects.{task_effects};
-ghost use Rattle.sentences.specs.Outside.{operands_of, plain_effect, guarded_effect, declare_it, or_mended, plain_remedy, guarded_remedy, held_remedy, acquire_remedy, apart_remedy, guarding_text, same_phase, used_text, reading_text, nobody_text, others_text, free_text, undeclared_text, read_only_text, declares_it_under, under_text, read_under_text, own_text, word_sentences, nowhere_text, first_region, further_on, before_text, region_line, last_region, counted, lacked_word, behind_text, is_stack, stack_text, stack_if, region_said, site_sentences, outside_sentences};
+ghost use Rattle.sentences.specs.Told.{AreTold};
+ghost use Rattle.sentences.specs.Outside.{operands_of, plain_effect, guarded_effect, declare_it, or_mended, plain_remedy, family_text, own_words, by_step, step_remedy, shared_remedy, effect_remedy, guarded_remedy, held_remedy, acquire_remedy, apart_remedy, guarding_text, same_phase, used_text, reading_text, nobody_text, others_text, free_text, undeclared_text, read_only_text, declares_it_under, under_text, read_under_text, own_text, word_sentences, nowhere_text, first_region, further_on, before_text, region_line, last_region, counted, lacked_word, behind_text, is_stack, stack_text, stack_if, region_said, site_sentences, outside_sentences};
 
 use crate::conflicts::push_core;
-use crate::effects::{EffectLine, push_declared_effects};
+use crate::effects::push_declared_effects;
+use crate::families::{TaskFamily, family_of};
 use crate::marks::first;
 use crate::others_use::{Others, others_in};
 use crate::sites::{Site, len_of, lock_name, name_of, site_of};
+use crate::told::ToldEffects;
 use crate::uses::{Access, OwnUse, own_use};
 use dn_base::{CoreId, Memory, PhaseId};
 use region_table::Program;
@@ -79,6 +81,83 @@ fn push_plain_remedy(
     push(out, plain_effect(access))?;
     push_operands(out, program, place)?;
     push_or_mended(out)
+}
+
+#[tactic(auto, unfolding(crate::specs::Outside::family_text))]
+fn push_family(out: &mut Vec<u8>, family: TaskFamily) -> Result<(), Memory>
+    ensures { OnOk result (out.new.items ≡ out.old.items ++ family_text family) }
+{
+    push_pieces(
+        out,
+        &[
+            Bytes(b"  Line "),
+            Number(family.line),
+            Bytes(b" declares "),
+            Long(family.tasks as u64),
+            Bytes(b" tasks, and an effect behind it is one of each of them.\n"),
+        ],
+    )
+}
+
+#[tactic(auto, unfolding(crate::specs::Outside::own_words))]
+fn push_own_words(out: &mut Vec<u8>) -> Result<(), Memory>
+    ensures { OnOk result (out.new.items ≡ out.old.items ++ own_words) }
+{
+    push(
+        out,
+        b"  Two tasks that may store to the same word conflict: give each a word of its own by a step, as in `.writes ",
+    )
+}
+
+#[tactic(auto, unfolding(crate::specs::Outside::by_step))]
+fn push_by_step(out: &mut Vec<u8>) -> Result<(), Memory>
+    ensures { OnOk result (out.new.items ≡ out.old.items ++ by_step) }
+{
+    push(out, b", 0, 1, 1`, or mend the address.\n")
+}
+
+/// Adds how the tasks of a family may store to words of a region.
+#[tactic(auto, unfolding(crate::specs::Outside::step_remedy))]
+fn push_step_remedy(out: &mut Vec<u8>, program: &Program, place: WordPlace) -> Result<(), Memory>
+    ensures { OnOk result (out.new.items ≡ out.old.items ++ step_remedy program.now place) }
+{
+    push_own_words(out)?;
+    push(out, name_of(program.regions.as_slice(), place.region))?;
+    push_by_step(out)
+}
+
+/// Adds which effect of a family's tasks fixes the access of one of them.
+fn push_shared_remedy(
+    out: &mut Vec<u8>,
+    program: &Program,
+    access: Access,
+    place: WordPlace,
+) -> Result<(), Memory>
+    ensures { OnOk result (out.new.items ≡ out.old.items ++ shared_remedy program.now access place) }
+{
+    match access {
+        Access::Load => push_plain_remedy(out, program, access, place),
+        Access::Store => push_step_remedy(out, program, place),
+    }
+}
+
+/// Adds which effect without a lock fixes the access of a task, which is one of a family or alone on its line.
+fn push_effect_remedy(
+    out: &mut Vec<u8>,
+    program: &Program,
+    access: Access,
+    place: WordPlace,
+    family: Option<TaskFamily>,
+) -> Result<(), Memory>
+    ensures { OnOk result (out.new.items ≡ out.old.items ++ effect_remedy program.now access place family) }
+{
+    match family {
+        Some(family) => {
+            push_family(out, family)?;
+            push_shared_remedy(out, program, access, place)
+        }
+        None => push_plain_remedy(out, program, access, place),
+    }
 }
 
 /// Adds that an effect by a lock fixes the access, and what else is to be done.
@@ -201,11 +280,12 @@ fn push_others(
     out: &mut Vec<u8>,
     located: &Located,
     phase: u32,
+    core: u32,
     access: Access,
     place: WordPlace,
     others: Others,
 ) -> Result<(), Memory>
-    ensures { OnOk result (out.new.items ≡ out.old.items ++ others_text located.now phase access place others) }
+    ensures { OnOk result (out.new.items ≡ out.old.items ++ others_text located.now phase core access place others) }
 {
     let program = &located.program;
     match others {
@@ -214,17 +294,19 @@ fn push_others(
             let further = b"`, and acquire the lock first; or mend the address.\n";
             push_guarded_remedy(out, program, access, guardian.lock, place, further)
         }
-        Others::Contending(core) => {
-            push_used(out, located, phase, core, b" uses it without a lock.\n")?;
+        Others::Contending(other) => {
+            push_used(out, located, phase, other, b" uses it without a lock.\n")?;
             push_apart_remedy(out)
         }
-        Others::Reading(core) => {
-            push_reading(out, located, phase, core)?;
-            push_plain_remedy(out, program, access, place)
+        Others::Reading(other) => {
+            push_reading(out, located, phase, other)?;
+            let family = family_of(&located.places, phase, core);
+            push_effect_remedy(out, program, access, place, family)
         }
         Others::Nobody => {
             push_nobody(out)?;
-            push_plain_remedy(out, program, access, place)
+            let family = family_of(&located.places, phase, core);
+            push_effect_remedy(out, program, access, place, family)
         }
     }
 }
@@ -323,25 +405,25 @@ fn push_own(
         OwnUse::ReadOnly => {
             push_read_only(out)?;
             let others = others_in(program, phase, access, core, word);
-            push_others(out, located, phase, access, place, others)
+            push_others(out, located, phase, core, access, place, others)
         }
         OwnUse::Undeclared => {
             push_undeclared(out)?;
             let others = others_in(program, phase, access, core, word);
-            push_others(out, located, phase, access, place, others)
+            push_others(out, located, phase, core, access, place, others)
         }
     }
 }
 
 /// Adds what is said of a word, by what its task declares.
-fn push_word_sentences(
+fn push_word_sentences<'a>(
     out: &mut Vec<u8>,
     text: &[u8],
-    effects: &[EffectLine],
-    located: &Located,
+    effects: &ToldEffects<'a>,
+    located: &'a Located,
     accessed: Accessed,
 ) -> Result<(), Memory>
-    requires { effects.now ≡ task_effects text.now }
+    requires { AreTold text.now effects.now }
     ensures { OnOk result (out.new.items ≡ out.old.items ++ word_sentences text.now located.now accessed.phase accessed.core accessed.access accessed.word accessed.place
         (declared located.now.program accessed.phase accessed.core)) }
 {
@@ -485,17 +567,17 @@ fn push_region_said(out: &mut Vec<u8>, program: &Program, region: usize) -> Resu
     }
 }
 
-fn push_site(
+fn push_site<'a>(
     out: &mut Vec<u8>,
     text: &[u8],
-    effects: &[EffectLine],
-    located: &Located,
+    effects: &ToldEffects<'a>,
+    located: &'a Located,
     phase: u32,
     core: u32,
     access: Access,
     site: Site,
 ) -> Result<(), Memory>
-    requires { effects.now ≡ task_effects text.now }
+    requires { AreTold text.now effects.now }
     ensures { OnOk result (out.new.items ≡ out.old.items ++ site_sentences text.now located.now phase core access site) }
 {
     match site {
@@ -520,16 +602,16 @@ fn push_site(
 }
 
 /// Adds why the task of a core in a phase may not access the address so, and how to fix it.
-pub(crate) fn push_outside(
+pub(crate) fn push_outside<'a>(
     out: &mut Vec<u8>,
     text: &[u8],
-    effects: &[EffectLine],
-    located: &Located,
+    effects: &ToldEffects<'a>,
+    located: &'a Located,
     task: (u32, u32),
     access: Access,
     address: u32,
 ) -> Result<(), Memory>
-    requires { effects.now ≡ task_effects text.now }
+    requires { AreTold text.now effects.now }
     ensures { OnOk result (out.new.items ≡ out.old.items ++ outside_sentences text.now located.now task.0 task.1 access address) }
 {
     let site = site_of(&located.program, address);

@@ -1,11 +1,11 @@
 //! Sentences on traps.
 ghost use Rattle.std.specs.Prelude.{◌≡◌, ◌++◌, OnOk};
-ghost use Rattle.sentences.specs.Effects.{task_effects};
+ghost use Rattle.sentences.specs.Told.{AreTold};
 ghost use Rattle.sentences.specs.Endings.{accesses_at, said_before, said_behind, remedy, data_text, value_text, trap_text, remedy_text, mending_text, trap_sentences};
 ghost use Rattle.sentences.specs.Uses.{instruction_access};
 
-use crate::effects::EffectLine;
 use crate::outside::push_outside;
+use crate::told::ToldEffects;
 use crate::uses::{Access, instruction_access};
 use dn_base::Memory;
 use region_table::Program;
@@ -145,17 +145,17 @@ fn push_remedy(out: &mut Vec<u8>, kind: TrapKind) -> Result<(), Memory>
 }
 
 /// Adds how to fix a trap; and before that, where a load or store isn't allowed, why.
-fn push_mending(
+fn push_mending<'a>(
     out: &mut Vec<u8>,
     text: &[u8],
-    effects: &[EffectLine],
-    located: &Located,
+    effects: &ToldEffects<'a>,
+    located: &'a Located,
     task: (u32, u32),
     kind: TrapKind,
     access: Option<Access>,
     value: u32,
 ) -> Result<(), Memory>
-    requires { effects.now ≡ task_effects text.now }
+    requires { AreTold text.now effects.now }
     ensures { OnOk result (out.new.items ≡ out.old.items ++ mending_text text.now located.now task.0 task.1 kind access value) }
 {
     match (kind, access) {
@@ -167,17 +167,17 @@ fn push_mending(
 }
 
 /// Adds why the task of this phase and core trapped at an address, and how to fix it.
-pub(crate) fn push_trap(
+pub(crate) fn push_trap<'a>(
     out: &mut Vec<u8>,
     text: &[u8],
-    effects: &[EffectLine],
-    located: &Located,
+    effects: &ToldEffects<'a>,
+    located: &'a Located,
     task: (u32, u32),
     kind: TrapKind,
     pc: u32,
     value: u32,
 ) -> Result<(), Memory>
-    requires { effects.now ≡ task_effects text.now }
+    requires { AreTold text.now effects.now }
     ensures { OnOk result (out.new.items ≡ out.old.items ++ trap_sentences text.now located.now task.0 task.1 kind (instruction_access located.now.program pc) value) }
 {
     let access = instruction_access(&located.program, pc);
