@@ -105,7 +105,7 @@ shown = pathlib.Path("tools/explained.txt").read_text()
 fixes = re.findall(r'^(?:amendment|remedy) \(?\w+\.TheVariants\.(\w+).* = codes "(.*)"$', code, re.M) + [
     ("a conflict", sentence) for sentence in re.findall(r'^\w+_remedy = codes "  ((?:Give|Have) .*)" \+\+ newline$', code, re.M)]
 for kind, sentence in fixes:
-    if (sentence in shown) == (kind in ("Outside", "BadOperand", "OutOfRange", "Misplaced", "Memory")):
+    if (sentence in shown) == (kind in ("Outside", "OutOfRange", "Misplaced", "Memory")):
         found.append(f"tools/explained.txt: of {kind}: {sentence}")
 if len(fixes) < 26:
     found.append(f"tools/explained.txt is compared with {len(fixes)} sentences on fixes alone")
