@@ -20,7 +20,6 @@ use Rattle.checked_runs.specs.Documents.{IsRefusedDocument, shape_told, HasTrace
 use Rattle.checked_runs.specs.Runs.{IsPrintable}
 use Rattle.run_report.proofs.OneProgram.{one-program}
 use Rattle.view_top.specs.Status.{Output}
-use Rattle.view_top.specs.declared.documents.DocumentRun.{DocumentRun}
 use Rattle.view_top.specs.declared.documents.KeptRun.{KeptRun}
 use Rattle.view_top.specs.declared.options.StateOptions.{StateOptions}
 use Rattle.view_top.specs.Answers.{HasKeptRun, IsStateShown}
@@ -34,14 +33,14 @@ run-on P t r is C told =
     subst (λ (es : List Event). IsRun (initial_state C) es) (sym is.events) run
 
 module _ (document text : List ℕ) (t : Trace) (P : ProgramParts) where
-  pub kept-run : (r : Result DocumentRun Stop) → IsDocument document t → text ≡ t.text → source text ≡ Ok P → IsChecked P → IfOk r (λ d. IsKeptRun P t d.kept)
-      → IfOk r (λ d. HasKeptRun document (λ _ x run. d.kept ≡ kept_run_of x run))
+  pub kept-run : (r : Result KeptRun Stop) → IsDocument document t → text ≡ t.text → source text ≡ Ok P → IsChecked P → IfOk r (IsKeptRun P t)
+      → IfOk r (λ kept. HasKeptRun document (λ _ x run. kept ≡ kept_run_of x run))
   kept-run (Err s) told same is checked h = tt
-  kept-run (Ok d) told same is checked h =
+  kept-run (Ok k) told same is checked h =
       record {
         trace = t;
         is = told;
-        holds = record { program = P; is = ap source (sym same) ∙ is; checked = checked; holds = record { run = d.kept.run; told = h.told; holds = h.is } };
+        holds = record { program = P; is = ap source (sym same) ∙ is; checked = checked; holds = record { run = k.run; told = h.told; holds = h.is } };
       }
 
   ready : (run : RunRecord) → IsDocument document t → source t.text ≡ Ok P → IsChecked P → IsRunTold P t run → IsPrintable run → IsViewable (kept_run_of t run)
@@ -53,17 +52,17 @@ module _ (document text : List ℕ) (t : Trace) (P : ProgramParts) where
         printable = printable;
       }
 
-  pub viewable : (r : Result DocumentRun Stop) → IsDocument document t → text ≡ t.text → source text ≡ Ok P → IsChecked P → IfOk r (λ d. IsKeptRun P t d.kept) → IfOk r (λ d. IsViewable d.kept)
+  pub viewable : (r : Result KeptRun Stop) → IsDocument document t → text ≡ t.text → source text ≡ Ok P → IsChecked P → IfOk r (IsKeptRun P t) → IfOk r IsViewable
   viewable (Err s) told same is checked h = tt
-  viewable (Ok d) told same is checked h = subst IsViewable (sym h.is) (ready d.kept.run told (ap source (sym same) ∙ is) checked h.told h.printable)
+  viewable (Ok k) told same is checked h = subst IsViewable (sym h.is) (ready k.run told (ap source (sym same) ∙ is) checked h.told h.printable)
 
   refused-stop : (s : Stop) → IsDocument document t → text ≡ t.text → source text ≡ Ok P → IsChecked P → IsStop (IsNoRun P t) s → IsStop (IsRefusedDocument document) s
   refused-stop Memory told same is checked h = tt
   refused-stop (Refused line) told same is checked h =
       inr (record { trace = t; is = told; holds = inr (record { program = P; is = ap source (sym same) ∙ is; checked = checked; holds = h }) })
 
-  pub no-run : (r : Result DocumentRun Stop) → IsDocument document t → text ≡ t.text → source text ≡ Ok P → IsChecked P → IfErr r (IsStop (IsNoRun P t)) → IfErr r (IsStop (IsRefusedDocument document))
-  no-run (Ok d) told same is checked h = tt
+  pub no-run : (r : Result KeptRun Stop) → IsDocument document t → text ≡ t.text → source text ≡ Ok P → IsChecked P → IfErr r (IsStop (IsNoRun P t)) → IfErr r (IsStop (IsRefusedDocument document))
+  no-run (Ok k) told same is checked h = tt
   no-run (Err s) told same is checked h = refused-stop s told same is checked h
 
   -- what is shown of the document's program and events is shown of the document
@@ -87,6 +86,13 @@ pub fit : (k : KeptRun) (slice : List ℕ) → slice ≡ k.text → IsViewable k
 fit k slice same can = record { program = can.run.program; is = ap source same ∙ can.run.is; checked = can.run.checked; holds = tt }
 
 module _ (k : KeptRun) (slice : List ℕ) (Q : ProgramParts) (shape : Shape) where
+  -- the run of a kept run, for the program that was assembled from its text
+  pub run-of-kept : (events : List Event) → IsViewable k → slice ≡ k.text → source slice ≡ Ok Q → shape ≡ shape_told Q k.sizes → events ≡ k.run.events → IsRunOn Q shape k.sizes.fuel events
+  run-of-kept events can same is at are =
+      subst (λ (s : Shape). IsRunOn Q s k.sizes.fuel events) (sym at)
+      (subst (λ (es : List Event). IsRunOn Q (shape_told Q k.sizes) k.sizes.fuel es) (sym are)
+      (subst (λ (P : ProgramParts). IsRunOn P (shape_told P k.sizes) k.sizes.fuel k.run.events) (one-program k.text can.run.program Q can.run.is (ap source (sym same) ∙ is)) can.run.holds))
+
   -- what is made with that program is made of the kept run
   pub made-of-kept : {X E : Type 0} (events : List Event) (Holds : ProgramParts → Shape → List Event → X → Type 0) (r : Result X E) → slice ≡ k.text → source slice ≡ Ok Q → shape ≡ shape_told Q k.sizes → events ≡ k.run.events
       → IfOk r (Holds Q shape events) → IfOk r (λ x. HasProgram k.text (λ P. Holds P (shape_told P k.sizes) k.run.events x))

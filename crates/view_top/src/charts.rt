@@ -9,14 +9,13 @@ ghost use Rattle.checked_runs.specs.Documents.{IsRefusedDocument, shape_told};
 ghost use Rattle.view_top.specs.declared.options.View.TheVariants as view;
 ghost use Rattle.view_top.specs.Answers.{chart_ticks, last_number, located, made, range_for, view_made, IsDrawn, IsPicture};
 ghost use Rattle.view_top.specs.Command.{IsChartInRange};
-ghost use Rattle.view_top.specs.Kept.{IsFit, IsKeptChain, IsMachineOf, IsViewable};
+ghost use Rattle.view_top.specs.Kept.{IsFit, IsKeptChain, IsViewable};
 
 use crate::ChartOptions;
 use crate::answering::{Output, done_with, refused_words};
-use crate::documents::{KeptRun, document_run, places_in, program_in, shape_of};
+use crate::documents::{KeptRun, kept_run, places_in, program_in, shape_of};
 use crate::timings::timing_of;
 use dn_base::{Memory, Sequence};
-use dn_machine::Machine;
 use message_chart::{Chart, chart_text};
 use message_net::Event;
 use run_chart::{Columns, Range, chart};
@@ -62,18 +61,12 @@ fn numbers_in(alloc: Global, links: &[Link]) -> Result<Sequence<u32>, Memory>
 }
 
 /// The numbers of the events of a run's longest chain, by the options' ticks.
-fn chain_of(
-    alloc: Global,
-    options: &ChartOptions,
-    kept: &KeptRun,
-    machine: &mut Machine,
-) -> Result<Sequence<u32>, Memory>
+fn chain_of(alloc: Global, options: &ChartOptions, kept: &KeptRun) -> Result<Sequence<u32>, Memory>
     requires limits { IsChartInRange options.now }
     requires kept { IsViewable kept.now }
-    requires machine { IsMachineOf kept.now machine.old }
     ensures { IfOk result (λ chain. HasProgram kept.now.text (IsKeptChain kept.now (chart_ticks options.now) chain)) }
 {
-    let timing = timing_of(alloc, kept, machine, &chart_ticks(options))?;
+    let timing = timing_of(alloc, kept, &chart_ticks(options))?;
     numbers_in(alloc, timing.links.as_slice())
 }
 
@@ -109,40 +102,28 @@ fn drawn(alloc: Global, chart: &Chart, text: &[u8]) -> Result<Output, Memory>
 }
 
 /// The picture of a run's chart.
-fn picture(
-    alloc: Global,
-    options: &ChartOptions,
-    kept: &KeptRun,
-    machine: &mut Machine,
-) -> Result<Output, Memory>
+fn picture(alloc: Global, options: &ChartOptions, kept: &KeptRun) -> Result<Output, Memory>
     requires limits { IsChartInRange options.now }
     requires within { options.now.first ≤ last_number kept.now.run.events }
     requires kept { IsViewable kept.now }
-    requires machine { IsMachineOf kept.now machine.old }
     ensures { IfOk result (λ out. HasProgram kept.now.text (λ P. IsPicture (located P kept.now.text) kept.now.sizes options.now kept.now.run.events out)) }
 {
-    let chain = chain_of(alloc, options, kept, machine)?;
+    let chain = chain_of(alloc, options, kept)?;
     let range = range_for(options);
     let chart = chart_of(alloc, kept, range, chain.as_slice(), options.columns)?;
     drawn(alloc, &chart, kept.text.as_slice())
 }
 
 /// The picture of a run's chart, or the refusal of a picture that would begin after the run's last event.
-fn draw(
-    alloc: Global,
-    options: &ChartOptions,
-    kept: &KeptRun,
-    machine: &mut Machine,
-) -> Result<Output, Memory>
+fn draw(alloc: Global, options: &ChartOptions, kept: &KeptRun) -> Result<Output, Memory>
     requires limits { IsChartInRange options.now }
     requires kept { IsViewable kept.now }
-    requires machine { IsMachineOf kept.now machine.old }
     ensures { IfOk result (λ out. HasProgram kept.now.text (λ P. IsDrawn (located P kept.now.text) kept.now.sizes options.now kept.now.run out)) }
 {
     if options.first as usize > last_number(kept.run.events.as_slice()) {
         return refused_words(alloc);
     }
-    picture(alloc, options, kept, machine)
+    picture(alloc, options, kept)
 }
 
 /// The chart of a trace's run.
@@ -155,9 +136,9 @@ pub(crate) fn draw_document(
     ensures made { IfOk result (view_made (view.Chart options.now) document.now) }
     ensures stop { IfErr result (IsStop (IsRefusedDocument document.now)) }
 {
-    let mut told = document_run(alloc, document)?;
-    let drawn = draw(alloc, options, &told.kept, &mut told.machine);
+    let kept = kept_run(alloc, document)?;
+    let drawn = draw(alloc, options, &kept);
     // for the prover alone, as in `drawn`
-    drop(told);
+    drop(kept);
     Ok(drawn?)
 }

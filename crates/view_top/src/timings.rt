@@ -1,28 +1,29 @@
 //! The timing of a trace's run.
-ghost use Rattle.std.specs.Prelude.{◌≡◌, IfOk, OnOk};
+ghost use Rattle.std.specs.Prelude.{◌≡◌, IfOk};
 ghost use Rattle.run_timing.specs.Ticks.{AreWithinLimits};
 ghost use Rattle.run_report.specs.Texts.{HasProgram};
-ghost use Rattle.view_top.specs.Kept.{IsKeptTiming, IsMachineOf, IsViewable};
+ghost use Rattle.view_top.specs.Kept.{IsKeptTiming, IsViewable};
 
-use crate::documents::{KeptRun, begin_again};
+use crate::documents::{KeptRun, program_in, shape_of};
 use dn_base::Memory;
-use dn_machine::Machine;
-use run_timing::{Ticks, Timing, time_events};
+use run_timing::{Ticks, Timing, time_run};
 use std::alloc::Global;
 
-/// The timing of a run on its machine, by these ticks.
-pub(crate) fn timing_of(
-    alloc: Global,
-    kept: &KeptRun,
-    machine: &mut Machine,
-    ticks: &Ticks,
-) -> Result<Timing, Memory>
+/// The timing of a run, by these ticks.
+pub(crate) fn timing_of(alloc: Global, kept: &KeptRun, ticks: &Ticks) -> Result<Timing, Memory>
     requires kept { IsViewable kept.now }
-    requires machine { IsMachineOf kept.now machine.old }
     requires ticks { AreWithinLimits ticks.now }
-    ensures timing { IfOk result (λ timing. HasProgram kept.now.text (IsKeptTiming kept.now ticks.now timing)) }
-    ensures machine { OnOk result (IsMachineOf kept.now machine.new) }
+    ensures { IfOk result (λ timing. HasProgram kept.now.text (IsKeptTiming kept.now ticks.now timing)) }
 {
-    begin_again(alloc, kept, machine)?;
-    time_events(alloc, machine, kept.run.events.as_slice(), ticks)
+    let program = program_in(alloc, kept.text.as_slice())?;
+    let shape = shape_of(kept.sizes, &program);
+    let fuel = kept.sizes.fuel;
+    time_run(
+        alloc,
+        program,
+        shape,
+        fuel,
+        kept.run.events.as_slice(),
+        ticks,
+    )
 }

@@ -1,20 +1,22 @@
-use Rattle.std.proofs.Common.{◌≤◌, List, length, sym, subst}
+use Rattle.std.proofs.Common.{List}
+use Rattle.dn_base.specs.declared.ids.Shape.{Shape}
+use Rattle.region_table.specs.Program.{ProgramParts}
 use Rattle.message_net.specs.declared.event.Event.{Event}
-use Rattle.machine_rules.specs.Runs.{IsRun}
-use Rattle.view_top.proofs.Machines.{stays-after, timing-made}
+use Rattle.run_timing.specs.declared.timing.Timing.{Timing}
+use Rattle.run_timing.specs.Longest.{IsTimingOf}
+use Rattle.view_top.proofs.Kept.{fit, run-of-kept, made-of-kept}
 use Rattle.view_top.proofs.timings.timing_of.Goals as goal
 
-pub time_events-requires-clause-run : goal.time_events-requires-clause-run
-time_events-requires-clause-run c = subst (λ (es : List Event). IsRun c.begin_again.new.machine.state es) (sym c.as_slice.ensures) c.in_ok-begin_again.ensures.run
+pub program_in-requires : goal.program_in-requires
+program_in-requires c = fit c.args.kept.now c.as_slice.result.now c.as_slice.ensures c.requires.kept
 
-pub time_events-requires-clause-few : goal.time_events-requires-clause-few
-time_events-requires-clause-few c = subst (λ (es : List Event). length es ≤ 25169664) (sym c.as_slice.ensures) c.requires.kept.few
+pub time_run-requires-clause-run : goal.time_run-requires-clause-run
+time_run-requires-clause-run c =
+    run-of-kept c.args.kept.now c.as_slice.result.now c.in_ok-program.program c.shape_of-shape.result c.as_slice-2.result.now c.requires.kept c.as_slice.ensures c.in_ok-program.ensures c.shape_of-shape.ensures
+    c.as_slice-2.ensures
 
-pub returns-clause-timing : goal.returns-clause-timing
-returns-clause-timing c =
-    timing-made c.args.kept.now c.begin_again.new.machine c.as_slice.result.now c.args.ticks.now c.time_events.result c.in_ok-begin_again.ensures.machine c.in_ok-begin_again.ensures.initial c.as_slice.ensures
-    c.time_events.ensures.timing
-
-pub returns-clause-machine : goal.returns-clause-machine
-returns-clause-machine c =
-    stays-after c.args.kept.now c.begin_again.new.machine c.time_events.new.machine c.as_slice.result.now c.time_events.result c.time_events.ensures.leads c.in_ok-begin_again.ensures.machine
+pub returns : goal.returns
+returns c =
+    made-of-kept c.args.kept.now c.as_slice.result.now c.in_ok-program.program c.shape_of-shape.result c.as_slice-2.result.now
+    (λ (P : ProgramParts) (s : Shape) (es : List Event) (timing : Timing). IsTimingOf P s c.args.kept.now.sizes.fuel es c.args.ticks.now timing) c.time_run.result c.as_slice.ensures c.in_ok-program.ensures
+    c.shape_of-shape.ensures c.as_slice-2.ensures c.time_run.ensures
