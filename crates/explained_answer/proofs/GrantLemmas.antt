@@ -1,7 +1,7 @@
 -- The last grant of each lock, and what one more line changes.
 use Rattle.std.proofs.Common.{◌≡◌, ℕ, zero, suc, ◌+◌, ◌<◌, Bool, true, false, cond, ◌&&◌, ◌==◌, List, [], ◌∷◌, ◌++◌, length, replicate, take, get_or, find, flat_map, slice_index_or, slice_set, All, Option, Some, None, refl, sym, ap, subst, ◌∙◌, arith}
 use Rattle.std.proofs.lemmas.Bool.{eqb-true, eqb-false, ltb-true, false≢true}
-use Rattle.std.proofs.lemmas.List.{reverse-append, append-nil, append_assoc, length-map, length-set, get_or-map, map_more, get_or-set_same, get_or-set_other}
+use Rattle.std.proofs.lemmas.List.{reverse-append, append-nil, length-map, length-set, get_or-map, map_more, get_or-set_same, get_or-set_other}
 use Rattle.std.proofs.lemmas.List.Elements.{All-get_or}
 use Rattle.std.proofs.lemmas.Grind.{flat_map-append}
 use Rattle.dn_base.specs.declared.ids.Grant.{Grant}
@@ -103,16 +103,14 @@ more-grants l read table after i d are within room so_far note =
       ap length note ∙ length-with_last_grant table x ∙ room,
     )
 
--- one more line explained, after the bytes `front`
-pub more-explained : (text : List ℕ) (l : Located) (read : List ReadLine) (table : List (Option Grant)) (i : ℕ) (d : ReadLine) (front before after : List ℕ) (holder : Option ℕ)
+-- one more line explained
+pub more-explained : (text : List ℕ) (l : Located) (read : List ReadLine) (table : List (Option Grant)) (i : ℕ) (d : ReadLine) (before after : List ℕ) (holder : Option ℕ)
     → i < length read → ((grants : List Grant) → AreLastGrants grants table → holder ≡ holder_on grants (get_or read i d).line)
-    → AreLastGrants (answer_grants (lines_in read)) table → before ≡ front ++ flat_map (explained_line text l (answer_grants (lines_in read))) (lines_in (take i read))
+    → AreLastGrants (answer_grants (lines_in read)) table → before ≡ flat_map (explained_line text l (answer_grants (lines_in read))) (lines_in (take i read))
     → after ≡ before ++ (answer_line (get_or read i d).line ++ sentences_behind text l holder (get_or read i d).line)
-    → after ≡ front ++ flat_map (explained_line text l (answer_grants (lines_in read))) (lines_in (take (i + 1) read))
-more-explained text l read table i d front before after holder within tells are so_far said =
+    → after ≡ flat_map (explained_line text l (answer_grants (lines_in read))) (lines_in (take (i + 1) read))
+more-explained text l read table i d before after holder within tells are so_far said =
     let gs = answer_grants (lines_in read) in
     let x = (get_or read i d).line in
-    let told = flat_map (explained_line text l gs) (lines_in (take i read)) in
     said ∙ ap (λ (h : Option ℕ). before ++ (answer_line x ++ sentences_behind text l h x)) (tells gs are)
-    ∙ ap (λ (bs : List ℕ). bs ++ explained_line text l gs x) so_far ∙ append_assoc front told (explained_line text l gs x)
-    ∙ ap (λ (bs : List ℕ). front ++ bs) (sym (flat-more (explained_line text l gs) read i d within))
+    ∙ ap (λ (bs : List ℕ). bs ++ explained_line text l gs x) so_far ∙ sym (flat-more (explained_line text l gs) read i d within)

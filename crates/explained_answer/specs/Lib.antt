@@ -6,6 +6,5 @@ pub mod Holders
 pub mod Lines
 pub mod Listing
 pub mod Parts
-pub mod Several
 pub mod Trace
 pub mod Verdicts

@@ -25,7 +25,6 @@ use Rattle.explained_answer.specs.declared.parsing.ReadLine.{ReadLine}
 use Rattle.explained_answer.specs.declared.parsing.ReadAnswer.{ReadAnswer}
 use Rattle.explained_answer.specs.declared.parsing.ReadAnswer as read_answer
 use Rattle.explained_answer.specs.Holders.{answer_grants, holder_on}
-use Rattle.explained_answer.specs.Several.{answers_in}
 
 -- ---- what is said
 
@@ -91,13 +90,8 @@ sentences_behind text l holder (line.TheVariants.Fixed f) = []
 abbrev pub explained_line : List ℕ → Located → List Grant → AnswerLine → List ℕ
 explained_line text l grants x = answer_line x ++ sentences_behind text l (holder_on grants x) x
 
--- the lines of one answer, each with what is said after it
-abbrev pub answer_and_sentences : List ℕ → Located → List AnswerLine → List ℕ
-answer_and_sentences text l lines = flat_map (explained_line text l (answer_grants lines)) lines
-
--- the answers that some lines are, one after the other
 abbrev pub lines_and_sentences : List ℕ → Located → List AnswerLine → List ℕ
-lines_and_sentences text l lines = flat_map (answer_and_sentences text l) (answers_in lines)
+lines_and_sentences text l lines = flat_map (explained_line text l (answer_grants lines)) lines
 
 -- ---- which lines an answer may have
 

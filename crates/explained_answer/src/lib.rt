@@ -14,7 +14,6 @@ mod numbers;
 mod parsing;
 mod programs;
 mod refusals;
-mod several;
 mod taken;
 mod tasks;
 mod timing;
@@ -30,9 +29,7 @@ mod words;
 
 pub use explaining::{Explained, explain};
 pub use line::{AnswerLine, Count, FixedLine, Link};
-pub use line_laws::{
-    a_line_is_read_in_one_way, answers_are_explained_one_after_the_other, printed_answers_are_lines,
-};
+pub use line_laws::{a_line_is_read_in_one_way, printed_answers_are_lines};
 pub use line_parsing::read_line;
 pub use listing::take_listing;
 pub use taken::Taken;

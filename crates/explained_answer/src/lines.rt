@@ -1,14 +1,17 @@
 //! The lines of the answer of a run.
-ghost use Rattle.std.specs.Prelude.{◌≡◌, ◌++◌, OnOk};
+ghost use Rattle.std.specs.Prelude.{◌≡◌, ◌++◌, All, OnOk, IfOk};
 ghost use Rattle.sentences.specs.Told.{AreTold};
 ghost use Rattle.sentences.specs.Quotes.{AreSpans};
 ghost use Rattle.explained_answer.specs.AnswerLines.{answer_line};
-ghost use Rattle.explained_answer.specs.Lines.{named_word, named_lock, which_line, declared_there, task_there, the_instruction, stands_there, instruction_there, unproven_text, stuck_text, outcome_text, sentences_behind};
+ghost use Rattle.explained_answer.specs.Lines.{named_word, named_lock, which_line, declared_there, task_there, the_instruction, stands_there, instruction_there, unproven_text, stuck_text, outcome_text, sentences_behind, lines_and_sentences, IsLineOf, IsWritten, lines_in};
 
 use crate::AnswerLine;
+use crate::holders::{holder_on, last_grants};
+use crate::parsing::ReadLine;
 use dn_base::{Memory, Outcome};
-use sentences::{ToldEffects, code_place_at, push_ending, push_line};
+use sentences::{ToldEffects, code_place_at, line_spans, push_ending, push_line, told_effects};
 use src_text::Span;
+use std::alloc::Global;
 use text_pieces::{push, push_decimal};
 use text_places::{CodePlace, Located, Places, TaskPlace, push_code_place, push_lock, push_word};
 
@@ -176,7 +179,7 @@ fn push_sentences<'a>(
 }
 
 /// Adds a line, which is written so, and what is said of it.
-pub(crate) fn push_explained<'a>(
+fn push_explained<'a>(
     out: &mut Vec<u8>,
     text: &[u8],
     spans: &[Span],
@@ -193,4 +196,36 @@ pub(crate) fn push_explained<'a>(
 {
     push(out, written)?;
     push_sentences(out, text, spans, effects, located, line, holder)
+}
+
+/// Explains the lines of an answer, one after the other.
+pub(crate) fn explained_lines<'a>(
+    alloc: Global,
+    text: &'a [u8],
+    located: &'a Located,
+    lines: &[ReadLine<'_>],
+) -> Result<Vec<u8>, Memory>
+    requires written { All IsWritten lines.now }
+    requires are { All (IsLineOf located.now) (lines_in lines.now) }
+    ensures { IfOk result (λ out. out.items ≡ lines_and_sentences text.now located.now (lines_in lines.now)) }
+{
+    let last = last_grants(alloc, located, lines)?;
+    let found = line_spans(alloc, text)?;
+    let spans = found.as_slice();
+    let effects = told_effects(alloc, text)?;
+    let mut out = Vec::new(alloc);
+    for read in lines {
+        let holder = holder_on(last.as_slice(), read.line);
+        push_explained(
+            &mut out,
+            text,
+            spans,
+            &effects,
+            located,
+            read.line,
+            read.written,
+            holder,
+        )?;
+    }
+    Ok(out)
 }

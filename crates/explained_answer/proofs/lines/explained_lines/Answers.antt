@@ -2,10 +2,10 @@ use Rattle.std.proofs.Common.{arith}
 use Rattle.explained_answer.specs.Holders.{answer_grants, AreLastGrants}
 use Rattle.explained_answer.specs.Lines.{lines_in}
 use Rattle.explained_answer.proofs.GrantLemmas.{more-explained}
-use Rattle.explained_answer.proofs.several.push_answer.Goals as goal
+use Rattle.explained_answer.proofs.lines.explained_lines.Goals as goal
 
 pub loop-read-preserved : goal.loop-read-preserved
 loop-read-preserved c =
     let table : AreLastGrants (answer_grants (lines_in c.args.lines.now)) c.as_slice.result.now = rw c.as_slice.ensures.value c.in_ok-last.ensures in
-    more-explained c.args.text.now c.args.located.now c.args.lines.now c.as_slice.result.now c.loop-read.read-index _ c.args.out.now.items c.loop-read.out.items c.push_explained.new.out.items
+    more-explained c.args.text.now c.args.located.now c.args.lines.now c.as_slice.result.now c.loop-read.read-index _ c.loop-read.out.items c.push_explained.new.out.items
     c.holder_on-holder.result (omega (arith, c.loop-read-test.true)) c.holder_on-holder.ensures table c.loop-read.invariant c.in_ok-push_explained.ensures
