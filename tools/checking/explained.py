@@ -103,7 +103,7 @@ def remedies_lead_on():
             wanted, *edits = remedy
             named = re.findall(r"line by `(\.g?(?:reads|writes) [^`]*)`", output)
             added = [edit.split(" ", 2)[2] for edit in edits if re.match(r"\d+ \+ \.g?(reads|writes) ", edit)]
-            check(f"the remedy of {name} is the one that is named", not named or not added or added == named, (named, added))
+            check(f"the remedy of {name} is the one that is named", not named or not added or added == list(dict.fromkeys(named)), (named, added))
             file = pathlib.Path(room, "a text.s")
             file.write_text(mended(text, edits))
             ran = run(programs("denovo")[0] + ["--mode", "flat"], file.read_bytes())
