@@ -21,8 +21,9 @@ SAID = [
     ("PROTOCOL", r"a Bloom filter of (\d+) bits", "write_signature/specs/Signature.antt", r"h1 w = w % (\d+)"),
     ("PROTOCOL", r"its product with (\d+) modulo 2\^(\d+)", "write_signature/specs/Signature.antt", r"h2 w = w \* (\d+) % 2 \^ (\d+) / 2 \^ 24"),
     ("COMMAND", r"of a line, without its newline \| ([\d,]+); ([\d,]+) \|\n\| lines \| ([\d,]+)", "src_text/specs/Line.antt", None),
-    ("COMMAND", r"\| code words \| ([\d,]+) \|\n\| data words, in all regions \| ([\d,]+)", "region_table/specs/Program.antt", r"length p.code ≤ (\d+)\n.*length p.memory ≤ (\d+)"),
-    ("COMMAND", r"\| events of a run \| ([\d,]+)", "dn_machine/specs/Run.antt", r"most : length events ≤ (\d+)"),
+    ("COMMAND", r"\| code words \| ([\d,]+) \|", "region_table/specs/Program.antt", r"length p.code ≤ (\d+)"),
+    ("COMMAND", r"\| data words, in all regions \| ([\d,]+)", "dn_base/src/limits.rt", r"MOST_WORDS: usize = ([\d_]+)"),
+    ("COMMAND", r"\| events of a run \| ([\d,]+)", "dn_base/src/limits.rt", r"MOST_EVENTS: usize = ([\d_]+)"),
     ("COMMAND", r"\| bytes of a trace or a claim \| ([\d,]+)", "claims/specs/Claim.antt", r"most_bytes = (\d+)"),
     ("COMMAND", r"it has more than (\d+) bytes", "run_replay/specs/Faults.antt", r"most_bytes = (\d+)"),
 ]
