@@ -11,7 +11,7 @@
  *     }
  *
  * Link with libdenovo.a or libdenovo.so (tools/library makes both). What each function promises is proved of the machine behind the pointer:
- * the machine of the text when it is opened, the enabled events exactly, and the state to which an event leads (crates/denovo_step/src/lib.rt).
+ * the machine of the text when it is opened, the enabled events exactly, and the state to which an event leads (crates/denovo_c/src/lib.rt).
  *
  * What the caller owes, and nothing tests, besides what include/denovo.h says of pointers and sizes:
  *   - a denovo_machine is {0} before the first call, and else what the last call left in it. So it isn't copied and then used twice, `at` isn't

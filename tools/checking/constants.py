@@ -17,7 +17,7 @@ SAID = [
     ("LANGUAGE", r"n is from -(\d+) to \d+\.", "rv_assembler/specs/Number.antt", r"is_immediate z = is_within \(neg_ℤ \(pos (\d+)\)\) \(pos \1\)"),
     ("LANGUAGE", r"has the address (0x\d+) \+ 4i, and data word `w` the address (0x\d+) \+ 4w", "rv_assembler/specs/Emission.antt",
      r"label_address place = (0x\d+) \+ 4(?:.*\n)+?region_address word = (0x\d+) \+ 4"),
-    ("LANGUAGE", r"one instruction after the other, at most ([\d,]+), or", "command_words/specs/Command.antt", r"fuel : IsInRange 1 (\d+)"),
+    ("LANGUAGE", r"one instruction after the other, at most ([\d,]+), or", "dn_top/specs/Command.antt", r"fuel : IsInRange 1 (\d+)"),
     ("PROTOCOL", r"a Bloom filter of (\d+) bits", "write_signature/specs/Signature.antt", r"h1 w = w % (\d+)"),
     ("PROTOCOL", r"its product with (\d+) modulo 2\^(\d+)", "write_signature/specs/Signature.antt", r"h2 w = w \* (\d+) % 2 \^ (\d+) / 2 \^ 24"),
     ("COMMAND", r"of a line, without its newline \| ([\d,]+); ([\d,]+) \|\n\| lines \| ([\d,]+)", "src_text/specs/Line.antt", None),
@@ -49,7 +49,7 @@ def constants_of_the_pages_are_those_of_the_definitions():
 
 def the_options_have_the_ranges_of_the_definition():
     """The table of docs/COMMAND.md and the help have each option's range and default as the definition of the command has them."""
-    definition = pathlib.Path("crates/command_words/specs/Command.antt").read_text()
+    definition = pathlib.Path("crates/dn_top/specs/Command.antt").read_text()
     defaults = dict(re.findall(r'_rule \(codes "([\w-]+)"\) \(codes "(\w+)"\)', definition))
     ranges = {name: (low, high) for name, low, high in re.findall(r'number_in rows \(codes "([\w-]+)"\) (\d+) (\d+)', definition)}
     modes = re.findall(r'bytes_eq text \(codes "(\w+)"\)', definition)

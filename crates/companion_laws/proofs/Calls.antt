@@ -1,9 +1,9 @@
 -- What a call of denovo wrote is taken, and the line that refuses command words.
 use Rattle.std.proofs.Common.{◌≡◌, ◌⊎◌, inl, inr, ℕ, List, Option, Some, None, IfSome, refl, sym, subst}
 use Rattle.dn_base.specs.declared.status.Status as status
-use Rattle.command_words.specs.declared.options.Options.{Options}
+use Rattle.dn_top.specs.declared.options.Options.{Options}
 use Rattle.clap.specs.Walk.{Text}
-use Rattle.command_words.specs.Command.{OptionsInRange, options_of}
+use Rattle.dn_top.specs.Command.{OptionsInRange, options_of}
 use Rattle.program_outside.specs.Outside.{Devices}
 use Rattle.program_outside.specs.Serving.{usage_line}
 use Rattle.dn_top.specs.Answers.{IsOutcome}

@@ -8,9 +8,9 @@ use Rattle.effect_checker.specs.Checked.{IsChecked}
 use Rattle.flat_machine.specs.Ending.{flat_end}
 use Rattle.dn_machine.specs.declared.record.RunRecord.{RunRecord}
 use Rattle.run_report.specs.Texts.{HasChecked}
-use Rattle.command_words.specs.declared.options.Mode as mode
-use Rattle.command_words.specs.declared.options.Mode.{Mode}
-use Rattle.command_words.specs.declared.options.Options.{Options}
+use Rattle.dn_top.specs.declared.options.Mode as mode
+use Rattle.dn_top.specs.declared.options.Mode.{Mode}
+use Rattle.dn_top.specs.declared.options.Options.{Options}
 use Rattle.checked_runs.specs.Documents.{shape_told}
 use Rattle.checked_runs.specs.Runs.{HasFlatRun, IsRunOf}
 use Rattle.dn_top.specs.Answers.{IsFlatRun}

@@ -24,9 +24,9 @@ use Rattle.claims.specs.Claim.{IsClaimDocument}
 use Rattle.claims.specs.declared.verdict.Verdict.TheVariants.{Agrees}
 use Rattle.claims.specs.Judge.{IsVerdict, AgreesWithRun}
 use Rattle.claims.proofs.Verdicts.{run_agrees}
-use Rattle.command_words.specs.declared.options.Mode as mode
-use Rattle.command_words.specs.declared.options.Mode.{Mode}
-use Rattle.command_words.specs.declared.options.Options.{Options}
+use Rattle.dn_top.specs.declared.options.Mode as mode
+use Rattle.dn_top.specs.declared.options.Mode.{Mode}
+use Rattle.dn_top.specs.declared.options.Options.{Options}
 use Rattle.run_report.specs.Texts.{HasChecked}
 use Rattle.program_outside.specs.Outside.{Devices, Took}
 use Rattle.dn_top.specs.declared.output.Output.{Output}

@@ -20,10 +20,10 @@ use Rattle.run_replay.specs.Refusal.{fault_text, refusal_text}
 use Rattle.run_timing.specs.Text.{timing_of}
 use Rattle.text_places.specs.declared.places.Located.{Located}
 use Rattle.text_places.specs.Places.{text_places}
-use Rattle.command_words.specs.declared.options.Mode.{Mode}
-use Rattle.command_words.specs.declared.options.Mode as mode
-use Rattle.command_words.specs.declared.options.Options.{Options}
-use Rattle.command_words.specs.Command.{OptionsInRange}
+use Rattle.dn_top.specs.declared.options.Mode.{Mode}
+use Rattle.dn_top.specs.declared.options.Mode as mode
+use Rattle.dn_top.specs.declared.options.Options.{Options}
+use Rattle.dn_top.specs.Command.{OptionsInRange}
 use Rattle.run_report.specs.Texts.{HasProgram, HasChecked, IsUnfit}
 use Rattle.dn_top.specs.declared.output.Output.{Output}
 use Rattle.checked_runs.specs.Runs.{reported, summed_up}

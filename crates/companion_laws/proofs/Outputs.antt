@@ -1,8 +1,8 @@
 -- What explain_top makes of an answer of denovo is an explanation.
 use Rattle.std.proofs.Common.{◌≡◌, inl, inr, ℕ, ◌≤◌, List, length, refl, sym, ap, subst, ◌∙◌, arith}
 use Rattle.dn_base.specs.declared.status.Status as status
-use Rattle.command_words.specs.declared.options.Options.{Options}
-use Rattle.command_words.specs.Command.{OptionsInRange}
+use Rattle.dn_top.specs.declared.options.Options.{Options}
+use Rattle.dn_top.specs.Command.{OptionsInRange}
 use Rattle.dn_top.specs.declared.output.Output.{Output}
 use Rattle.dn_top.specs.Answers.{IsAnswer}
 use Rattle.explained_answer.specs.declared.explaining.Explained.{Explained}

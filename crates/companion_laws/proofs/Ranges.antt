@@ -5,10 +5,10 @@ use Rattle.std.proofs.lemmas.Bool.{and_parts, leb-true}
 use Rattle.std.proofs.lemmas.Option.{none-some, same_Some, cond_some, option_and_then_some}
 use Rattle.clap.specs.Kinds.{Kinds}
 use Rattle.clap.specs.Walk.{Row, Text, one_of}
-use Rattle.command_words.specs.declared.options.Options.{Options}
-use Rattle.command_words.specs.Numbers.{if_within, number_in_text}
-use Rattle.command_words.specs.Words.{faults_in, number_in, values_in, where_taken}
-use Rattle.command_words.specs.Command.{command, mode_in, options_from, options_of, OptionsInRange}
+use Rattle.dn_top.specs.declared.options.Options.{Options}
+use Rattle.program_outside.specs.Numbers.{if_within, number_in_text}
+use Rattle.program_outside.specs.Words.{faults_in, number_in, values_in, where_taken}
+use Rattle.dn_top.specs.Command.{command, mode_in, options_from, options_of, OptionsInRange}
 
 within-range : (low high number n : ℕ) → if_within low high number ≡ Some n → IsInRange low high n
 within-range low high number n e =

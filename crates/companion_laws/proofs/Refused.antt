@@ -16,8 +16,8 @@ use Rattle.run_report.specs.declared.refusal.Refusal as refusal
 use Rattle.run_report.specs.Refusal.{check_text, refusal_of}
 use Rattle.run_report.specs.Summary.{checked_of}
 use Rattle.run_report.specs.Texts.{HasProgram, IsNoProgram, IsInConflict, IsUnfit}
-use Rattle.command_words.specs.declared.options.Mode as mode
-use Rattle.command_words.specs.declared.options.Options.{Options}
+use Rattle.dn_top.specs.declared.options.Mode as mode
+use Rattle.dn_top.specs.declared.options.Options.{Options}
 use Rattle.text_places.specs.declared.places.Located.{Located}
 use Rattle.dn_top.specs.declared.output.Output.{Output}
 use Rattle.dn_top.specs.Answers.{IsAnswer, IsRefusal, answered}

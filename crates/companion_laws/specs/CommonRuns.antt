@@ -5,9 +5,9 @@ use Rattle.region_table.specs.Numbers.{HasWords}
 use Rattle.rv_core.specs.declared.ending.Ending.{Ending}
 use Rattle.dn_machine.specs.declared.record.RunRecord.{RunRecord}
 use Rattle.run_report.specs.Texts.{HasChecked}
-use Rattle.command_words.specs.declared.options.Mode.{Mode}
-use Rattle.command_words.specs.declared.options.Mode as mode
-use Rattle.command_words.specs.declared.options.Options.{Options}
+use Rattle.dn_top.specs.declared.options.Mode.{Mode}
+use Rattle.dn_top.specs.declared.options.Mode as mode
+use Rattle.dn_top.specs.declared.options.Options.{Options}
 use Rattle.checked_runs.specs.Documents.{HasTrace}
 use Rattle.common_outcomes.specs.declared.answer.Common.{Common}
 use Rattle.common_outcomes.specs.declared.answer.Outcomes.TheVariants.{Settled}

@@ -11,9 +11,9 @@ use Rattle.dn_machine.specs.Settings.{IsSettingOf}
 use Rattle.dn_machine.specs.declared.record.RunRecord.{RunRecord}
 use Rattle.run_report.specs.Answer.{answer_of}
 use Rattle.claims.specs.declared.claim.Claim.{Claim}
-use Rattle.command_words.specs.declared.options.Mode.{Mode}
-use Rattle.command_words.specs.declared.options.Mode as mode
-use Rattle.command_words.specs.declared.options.Options.{Options}
+use Rattle.dn_top.specs.declared.options.Mode.{Mode}
+use Rattle.dn_top.specs.declared.options.Mode as mode
+use Rattle.dn_top.specs.declared.options.Options.{Options}
 use Rattle.checked_runs.specs.Documents.{HasTrace, shape_told}
 use Rattle.dn_top.specs.Laws.{Call, IsTextAnswered}
 use Rattle.dn_top.specs.Runs.{shape_for}

@@ -2,9 +2,9 @@
 use Rattle.std.specs.Prelude.{◌≡◌, ℕ, List}
 use Rattle.run_replay.specs.declared.trace.Trace.{Trace}
 use Rattle.run_replay.specs.Document.{IsDocument}
-use Rattle.command_words.specs.declared.options.Mode.{Mode}
-use Rattle.command_words.specs.declared.options.Mode as mode
-use Rattle.command_words.specs.declared.options.Options.{Options}
+use Rattle.dn_top.specs.declared.options.Mode.{Mode}
+use Rattle.dn_top.specs.declared.options.Mode as mode
+use Rattle.dn_top.specs.declared.options.Options.{Options}
 use Rattle.program_outside.specs.Outside.{Took}
 use Rattle.dn_top.specs.declared.output.Output.{Output}
 use Rattle.dn_top.specs.Answers.{IsAnswer}

@@ -6,7 +6,7 @@ ghost use Rattle.region_table.specs.Program.{ProgramParts, IsProgram};
 ghost use Rattle.region_table.specs.Numbers.{HasWords};
 ghost use Rattle.effect_checker.specs.Checked.{IsChecked};
 ghost use Rattle.dn_machine.specs.declared.record.RunRecord.{RunRecord};
-ghost use Rattle.command_words.specs.declared.options.Options.{Options};
+ghost use Rattle.dn_top.specs.declared.options.Options.{Options};
 ghost use Rattle.checked_runs.specs.Runs.{IsRunOf};
 ghost use Rattle.dn_top.specs.Answers.{IsFlatRun};
 ghost use Rattle.dn_top.specs.Laws.{Call};

@@ -1,1 +1,4 @@
+mod Blocks
+mod Handles
 mod Starving
+mod Values

@@ -1,1 +1,9 @@
+pub mod Calls
+pub mod Codes
+pub mod Held
+pub mod HeldMachines
+pub mod Shown
+pub mod StepCalls
+pub mod Steps
 pub mod Texts
+pub mod Words

@@ -1,17 +1,17 @@
 ghost use Rattle.std.specs.Option.{option_map};
-ghost use Rattle.command_words.specs.Command.{options_of};
-ghost use Rattle.memory_devices.specs.Calls.{memory_at};
-ghost use Rattle.memory_devices.specs.Words.{block_words};
+ghost use Rattle.dn_top.specs.Command.{options_of};
+ghost use Rattle.denovo_c.specs.Calls.{memory_at};
+ghost use Rattle.denovo_c.specs.Words.{block_words};
 ghost use Rattle.dn_top.specs.Serving.{Serves};
 ghost use Rattle.dn_top.specs.Runs.{with_one_worker};
 ghost use Rattle.explain_top.specs.Command.{name_in};
 ghost use Rattle.denovo_c.specs.Texts.{IsExplainServed};
 
 use crate::held_text::HeldText;
+use crate::{HeldSink, SliceSource, words_in};
 use dn_base::Status;
 use dn_top::{Answer, answer_words};
 use explain_top::explain_main;
-use memory_devices::{HeldSink, SliceSource, words_in};
 use std::alloc::Global;
 
 /// Answers the words of this block by `denovo`.

@@ -11,9 +11,9 @@ use Rattle.run_replay.specs.declared.refusal.TraceRefusal.TheVariants.{Fault}
 use Rattle.run_replay.specs.Faults.{HasFault}
 use Rattle.run_replay.specs.Refusal.{refusal_text}
 use Rattle.run_replay.proofs.Single.{one-fault}
-use Rattle.command_words.specs.declared.options.Mode.{Mode}
-use Rattle.command_words.specs.declared.options.Mode as mode
-use Rattle.command_words.specs.declared.options.Options.{Options}
+use Rattle.dn_top.specs.declared.options.Mode.{Mode}
+use Rattle.dn_top.specs.declared.options.Mode as mode
+use Rattle.dn_top.specs.declared.options.Options.{Options}
 use Rattle.dn_top.specs.declared.output.Output.{Output}
 use Rattle.checked_runs.specs.Documents.{IsRefusedDocument}
 use Rattle.dn_top.specs.Answers.{IsReplayed, done_in, refused_in, most_read}

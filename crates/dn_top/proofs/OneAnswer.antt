@@ -11,9 +11,9 @@ use Rattle.flat_machine.proofs.RunLemmas.{least-one}
 use Rattle.run_report.specs.Answer.{answer_of}
 use Rattle.run_report.specs.Grants.{grant_lines}
 use Rattle.run_report.specs.Summary.{checked_of}
-use Rattle.command_words.specs.declared.options.Mode.{Mode}
-use Rattle.command_words.specs.declared.options.Mode as mode
-use Rattle.command_words.specs.declared.options.Options.{Options}
+use Rattle.dn_top.specs.declared.options.Mode.{Mode}
+use Rattle.dn_top.specs.declared.options.Mode as mode
+use Rattle.dn_top.specs.declared.options.Options.{Options}
 use Rattle.dn_top.specs.declared.output.Output.{Output}
 use Rattle.dn_top.specs.Answers.{IsFlatRun, IsListing, IsProof, answered, done_in, refused_in, picks_events, IsRefusal, IsAnswer}
 use Rattle.checked_runs.specs.Runs.{reported, summed_up}

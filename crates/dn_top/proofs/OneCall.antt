@@ -1,7 +1,7 @@
 -- Two calls with the same options about one text give one output.
 use Rattle.std.proofs.Common.{◌≡◌, ◌⊎◌, inl, inr, ℕ, List, Some, None, IfSome, refl, sym, ap, subst, ◌∙◌}
 use Rattle.dn_base.specs.declared.status.Status as status
-use Rattle.command_words.specs.declared.options.Options.{Options}
+use Rattle.dn_top.specs.declared.options.Options.{Options}
 use Rattle.dn_top.specs.declared.output.Output.{Output}
 use Rattle.dn_top.specs.declared.serving.Answer.{Answer}
 use Rattle.dn_top.specs.Answers.{IsAnswer, IsOutcome}

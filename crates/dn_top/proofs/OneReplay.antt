@@ -18,7 +18,7 @@ use Rattle.run_replay.specs.Refusal.{refusal_text}
 use Rattle.run_replay.specs.Replay.{IsTrueOf}
 use Rattle.run_replay.proofs.Single.{one-trace, one-fault, reads}
 use Rattle.run_replay.proofs.UnderWay.{one-replay}
-use Rattle.command_words.specs.declared.options.Options.{Options}
+use Rattle.dn_top.specs.declared.options.Options.{Options}
 use Rattle.dn_top.specs.declared.output.Output.{Output}
 use Rattle.checked_runs.specs.Documents.{IsRefusedDocument, HasTrace, IsNoDocument, IsReplayIn, IsNoRun, refused_by, shape_told}
 use Rattle.dn_top.specs.Answers.{IsReplayed}

@@ -16,7 +16,7 @@ use Rattle.run_timing.specs.declared.timing.Link.{Link}
 use Rattle.run_timing.specs.declared.timing.Timing.{Timing}
 use Rattle.run_timing.specs.Text.{time_line, chain_line, link_line, timing_of}
 use Rattle.run_timing.proofs.OneTiming.{one-timing}
-use Rattle.command_words.specs.declared.options.Options.{Options}
+use Rattle.dn_top.specs.declared.options.Options.{Options}
 use Rattle.dn_top.specs.declared.output.Output.{Output}
 use Rattle.checked_runs.specs.Runs.{summed_up}
 use Rattle.dn_top.specs.Runs.{shape_for, ticks_for, IsRunFor, IsPrintedRun, IsTimedFor, IsTimedRun, output_of_run}

@@ -26,7 +26,7 @@ use Rattle.flat_machine.specs.Phases.{all_tasks}
 use Rattle.flat_machine.specs.Ending.{flat_end, wait_shown, shown_of, task_end}
 use Rattle.flat_machine.proofs.CauseLemmas.{run-ended}
 use Rattle.dn_machine.specs.declared.record.RunRecord.{RunRecord}
-use Rattle.command_words.specs.declared.options.Mode.{Mode}
+use Rattle.dn_top.specs.declared.options.Mode.{Mode}
 use Rattle.dn_top.specs.declared.output.Output.{Output}
 use Rattle.dn_top.specs.Answers.{IsAnswer, IsProof, answered, done_in}
 use Rattle.run_report.specs.Texts.{HasChecked}

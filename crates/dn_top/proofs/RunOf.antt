@@ -18,7 +18,7 @@ use Rattle.run_replay.specs.Document.{FitsDocument}
 use Rattle.run_replay.proofs.ToldRuns.{run-told}
 use Rattle.checked_runs.specs.Runs.{IsPrintable}
 use Rattle.checked_runs.proofs.RunOf.{run-of, can-print}
-use Rattle.command_words.specs.declared.options.Options.{Options}
+use Rattle.dn_top.specs.declared.options.Options.{Options}
 use Rattle.dn_top.specs.Runs.{shape_for, IsRunFor}
 
 -- ---- from what the calls of the machine say

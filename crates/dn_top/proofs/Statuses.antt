@@ -5,9 +5,9 @@ use Rattle.dn_base.specs.declared.status.Status as status
 use Rattle.dn_base.specs.declared.status.Outcome.{Outcome}
 use Rattle.dn_base.specs.declared.status.Outcome as outcome
 use Rattle.dn_base.specs.Status.{status_of}
-use Rattle.command_words.specs.declared.options.Mode.{Mode}
-use Rattle.command_words.specs.declared.options.Mode as mode
-use Rattle.command_words.specs.declared.options.Options.{Options}
+use Rattle.dn_top.specs.declared.options.Mode.{Mode}
+use Rattle.dn_top.specs.declared.options.Mode as mode
+use Rattle.dn_top.specs.declared.options.Options.{Options}
 use Rattle.dn_top.specs.declared.output.Output.{Output}
 use Rattle.dn_top.specs.Serving.{IsRunWithStatus, IsOutcomeOrRefusal}
 use Rattle.dn_top.specs.Answers.{done_in, makes_run, runs_tasks, IsDone, IsRefusal, IsAnswer, IsOutcome}

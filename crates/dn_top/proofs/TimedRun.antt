@@ -12,7 +12,7 @@ use Rattle.dn_machine.proofs.OneSetting.{same-setting}
 use Rattle.run_timing.specs.declared.ticks.Ticks.{Ticks}
 use Rattle.run_timing.specs.declared.timing.Timing.{Timing}
 use Rattle.run_timing.specs.Longest.{IsLongest, IsTimingOf}
-use Rattle.command_words.specs.declared.options.Options.{Options}
+use Rattle.dn_top.specs.declared.options.Options.{Options}
 use Rattle.dn_top.specs.Runs.{shape_for, ticks_for, IsAnyRunFor}
 use Rattle.dn_top.proofs.RunOf.{asked-for}
 

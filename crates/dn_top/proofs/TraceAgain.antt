@@ -3,7 +3,7 @@ use Rattle.std.proofs.Common.{◌≡◌, ℕ, List, Some, refl, sym, ap, subst, 
 use Rattle.region_table.specs.Program.{ProgramParts}
 use Rattle.dn_machine.specs.declared.record.RunRecord.{RunRecord}
 use Rattle.run_replay.specs.declared.replaying.Replayed.TheVariants.{Complete}
-use Rattle.command_words.specs.declared.options.Options.{Options}
+use Rattle.dn_top.specs.declared.options.Options.{Options}
 use Rattle.dn_top.specs.declared.output.Output.{Output}
 use Rattle.dn_top.specs.Answers.{IsReplayed}
 use Rattle.run_report.specs.Texts.{HasChecked}

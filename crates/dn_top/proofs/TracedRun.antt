@@ -5,8 +5,8 @@ use Rattle.region_table.specs.Program.{ProgramParts}
 use Rattle.rv_assembler.specs.Source.{source}
 use Rattle.dn_machine.specs.declared.record.RunRecord.{RunRecord}
 use Rattle.run_replay.specs.Document.{FitsDocument, IsTrace, IsTraceShape}
-use Rattle.command_words.specs.declared.options.Options.{Options}
-use Rattle.command_words.specs.Command.{OptionsInRange}
+use Rattle.dn_top.specs.declared.options.Options.{Options}
+use Rattle.dn_top.specs.Command.{OptionsInRange}
 use Rattle.dn_top.specs.Runs.{IsAnyRunFor}
 use Rattle.dn_top.specs.Documents.{sizes_of, trace_of}
 use Rattle.dn_top.proofs.Fronts.{source-small}

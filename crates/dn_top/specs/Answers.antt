@@ -21,9 +21,9 @@ use Rattle.run_report.specs.Summary.{checked_of}
 use Rattle.run_report.specs.declared.programs.Stop.{Stop}
 use Rattle.run_report.specs.declared.programs.Stop as stop
 use Rattle.run_report.specs.Texts.{HasProgram, HasChecked, IsNoProgram, IsUnfit}
-use Rattle.command_words.specs.declared.options.Mode.{Mode}
-use Rattle.command_words.specs.declared.options.Mode as mode
-use Rattle.command_words.specs.declared.options.Options.{Options}
+use Rattle.dn_top.specs.declared.options.Mode.{Mode}
+use Rattle.dn_top.specs.declared.options.Mode as mode
+use Rattle.dn_top.specs.declared.options.Options.{Options}
 use Rattle.dn_top.specs.declared.output.Output.{Output}
 use Rattle.dn_machine.specs.declared.record.RunRecord.{RunRecord}
 use Rattle.checked_runs.specs.Causes.{IsCaused}

@@ -7,7 +7,7 @@ use Rattle.run_replay.specs.declared.trace.Trace.{Trace}
 use Rattle.run_replay.specs.Document.{IsTrace, document_of}
 use Rattle.checked_runs.specs.Runs.{reported}
 use Rattle.checked_runs.specs.Documents.{IsRunTold}
-use Rattle.command_words.specs.declared.options.Options.{Options}
+use Rattle.dn_top.specs.declared.options.Options.{Options}
 use Rattle.dn_top.specs.declared.output.Output.{Output}
 use Rattle.dn_top.specs.Runs.{IsRunFor, output_of_run}
 

@@ -8,8 +8,8 @@ use Rattle.rv_core.specs.declared.ending.TaskEnd.{TaskEnd}
 use Rattle.effect_prover.specs.declared.proved.Proved.TheVariants.{Inside}
 use Rattle.effect_prover.specs.Answer.{proved_text}
 use Rattle.dn_machine.specs.declared.record.RunRecord.{RunRecord}
-use Rattle.command_words.specs.declared.options.Mode as mode
-use Rattle.command_words.specs.declared.options.Options.{Options}
+use Rattle.dn_top.specs.declared.options.Mode as mode
+use Rattle.dn_top.specs.declared.options.Options.{Options}
 use Rattle.dn_top.specs.declared.serving.Answer.{Answer}
 use Rattle.dn_top.specs.Answers.{IsAnswer, IsOutcome, answered, picks_events}
 use Rattle.program_outside.specs.Outside.{Devices, Took}

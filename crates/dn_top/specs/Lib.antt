@@ -1,4 +1,5 @@
 pub mod Answers
+pub mod Command
 pub mod Documents
 pub mod Laws
 pub mod Runs

@@ -12,7 +12,7 @@ use Rattle.run_timing.specs.Ticks.{AreWithinLimits, ticks_by}
 use Rattle.run_timing.specs.Longest.{IsTimingOf}
 use Rattle.run_timing.specs.Text.{timing_of}
 use Rattle.checked_runs.specs.Runs.{IsRunOf, summed_up}
-use Rattle.command_words.specs.declared.options.Options.{Options}
+use Rattle.dn_top.specs.declared.options.Options.{Options}
 use Rattle.dn_top.specs.declared.output.Output.{Output}
 
 -- the same options, by one worker

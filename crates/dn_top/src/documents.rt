@@ -6,10 +6,10 @@ ghost use Rattle.dn_top.specs.Answers.{IsReplayed};
 ghost use Rattle.dn_top.specs.Documents.{IsReplayedRun, sizes_of, trace_of};
 ghost use Rattle.dn_top.specs.Runs.{output_of_run};
 
+use crate::options::Options;
 use crate::output::Output;
 use crate::runs::{handed_back, report_run};
 use checked_runs::{run_told, trace_in};
-use command_words::Options;
 use dn_base::Memory;
 use dn_machine::RunRecord;
 use effect_checker::Checked;

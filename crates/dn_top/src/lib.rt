@@ -3,7 +3,7 @@
 
 ghost use Rattle.std.specs.Prelude.{◌≡◌, map, string_bytes, None, IfSome};
 ghost use Rattle.std.specs.Option.{option_map};
-ghost use Rattle.command_words.specs.Command.{OptionsInRange, options_of};
+ghost use Rattle.dn_top.specs.Command.{OptionsInRange, options_of};
 ghost use Rattle.dn_top.specs.Answers.{most_read};
 ghost use Rattle.program_outside.specs.Outside.{GaveAtMost, IsUntouched, devices_of, source_of};
 ghost use Rattle.dn_top.specs.Runs.{with_one_worker};
@@ -16,9 +16,12 @@ use std::sync::Wait;
 use std::thread::Threads;
 
 mod answers;
+mod command;
 mod documents;
 mod laws;
+mod options;
 mod output;
+mod parsing;
 mod program;
 mod reading;
 mod runs;
@@ -26,13 +29,15 @@ mod serving;
 mod timings;
 mod workers;
 
-pub use command_words::{Mode, Options, WordsFault, read_words};
 pub use dn_machine::RunRecord;
 pub use laws::{
     a_proven_text_runs_inside, a_trace_replays_as_its_run,
     the_output_is_a_function_of_source_and_options,
 };
+pub use options::{Mode, Options};
+pub use parsing::read_words;
 pub use program::{denovo_given, denovo_program};
+pub use program_outside::WordsFault;
 pub use serving::Answer;
 use serving::{answer_alone, answer_by_workers};
 

@@ -1,5 +1,5 @@
 ghost use Rattle.std.specs.Prelude.{IsErr, IfOk, map, string_bytes};
-ghost use Rattle.command_words.specs.Command.{options_of};
+ghost use Rattle.dn_top.specs.Command.{options_of};
 ghost use Rattle.dn_base.specs.Status.{exit_code_of};
 ghost use Rattle.dn_top.specs.Serving.{Serves, answer_code};
 ghost use Rattle.program_outside.specs.ExitCodes.{HasEnded, IsExitCode, IsWithoutWords};

@@ -1,10 +1,10 @@
 ghost use Rattle.std.specs.Prelude.{◌≡◌, ◌+◌, IfOk, IfErr, IfSome};
-ghost use Rattle.command_words.specs.Command.{OptionsInRange};
+ghost use Rattle.dn_top.specs.Command.{OptionsInRange};
 ghost use Rattle.program_outside.specs.Outside.{SourceFailed, GaveAtMost, IsUntouched, source_of};
 ghost use Rattle.dn_top.specs.Answers.{most_read};
 ghost use Rattle.dn_top.specs.Serving.{IsObtained};
 
-use command_words::{Mode, Options};
+use crate::options::{Mode, Options};
 use dn_base::{MOST_OF_DOCUMENT, MOST_OF_TEXT, Source};
 use program_outside::{ReadError, read_text};
 use std::alloc::Global;

@@ -1,5 +1,5 @@
 ghost use Rattle.std.specs.Prelude.{◌≡◌, ◌≤◌, ◌++◌, All, length, IfOk, IfErr};
-ghost use Rattle.command_words.specs.Command.{OptionsInRange};
+ghost use Rattle.dn_top.specs.Command.{OptionsInRange};
 ghost use Rattle.run_report.specs.Summary.{summary_of};
 ghost use Rattle.run_replay.specs.Document.{FitsDocument, IsTrace};
 ghost use Rattle.run_timing.specs.Text.{timing_of};
@@ -10,8 +10,8 @@ ghost use Rattle.dn_top.specs.Documents.{trace_of};
 ghost use Rattle.checked_runs.specs.Runs.{IsPrintable, reported, summed_up};
 ghost use Rattle.dn_top.specs.Runs.{IsRunFor, with_one_worker, output_of_run, shape_for, ticks_for};
 
+use crate::options::Options;
 use crate::output::Output;
-use command_words::Options;
 use dn_base::{MOST_WORDS, Memory, Sequence, Shape, Status};
 use dn_machine::{Machine, RunRecord, a_machine_is_kept};
 use effect_checker::Checked;

@@ -1,6 +1,6 @@
 ghost use Rattle.std.specs.Prelude.{◌≡◌, ◌≢◌, ℕ, List, None, IfOk, IfSome};
-ghost use Rattle.command_words.specs.declared.options.Options.{Options as OptionsOf};
-ghost use Rattle.command_words.specs.Command.{OptionsInRange};
+ghost use Rattle.dn_top.specs.declared.options.Options.{Options as OptionsOf};
+ghost use Rattle.dn_top.specs.Command.{OptionsInRange};
 ghost use Rattle.dn_top.specs.Answers.{IsAnswer, most_read};
 ghost use Rattle.program_outside.specs.Outside.{GaveAtMost, IsUntouched, devices_of, sink_of, source_of};
 ghost use Rattle.program_outside.specs.Serving.{IsReplied};
@@ -8,9 +8,9 @@ ghost use Rattle.dn_top.specs.Runs.{with_one_worker};
 ghost use Rattle.dn_top.specs.Serving.{answer_code, answer_told, written_of, IsDoneBy, IsWrittenAnswer};
 
 use crate::answers::{output_alone, output_by_workers};
+use crate::options::Options;
 use crate::output::Output;
 use crate::reading::take_text;
-use command_words::Options;
 use dn_base::{Gate, Memory, Sink, Source, Status};
 use dn_machine::RunRecord;
 use program_outside::{EndStatus, Failure, unread};

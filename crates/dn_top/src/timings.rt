@@ -1,16 +1,16 @@
 //! Runs that are timed on the machine that they are of: its program is made once.
 ghost use Rattle.std.specs.Prelude.{◌≡◌, ◌≢◌, IfOk, IfErr};
-ghost use Rattle.command_words.specs.Command.{OptionsInRange};
+ghost use Rattle.dn_top.specs.Command.{OptionsInRange};
 ghost use Rattle.dn_machine.specs.Kept.{IsInitialMachine};
 ghost use Rattle.dn_machine.specs.Settings.{IsSettingOf};
 ghost use Rattle.run_report.specs.Texts.{HasChecked, IsStop, IsUnfit};
 ghost use Rattle.checked_runs.specs.Runs.{IsPrintable};
 ghost use Rattle.dn_top.specs.Runs.{IsAnyRunFor, IsRunFor, IsTimedFor, IsTimedRun, shape_for, with_one_worker};
 
+use crate::options::Options;
 use crate::output::Output;
 use crate::runs::{handed_back, has_each_kind, shape_of, ticks_of, timed_text};
 use crate::workers::workers_run;
-use command_words::Options;
 use dn_base::{Gate, Memory};
 use dn_machine::{Machine, RunRecord, a_machine_is_kept};
 use effect_checker::Checked;

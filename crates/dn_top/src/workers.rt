@@ -1,6 +1,6 @@
 //! Runs that host threads make.
 ghost use Rattle.std.specs.Prelude.{◌≢◌, All, IfOk, IfErr};
-ghost use Rattle.command_words.specs.Command.{OptionsInRange};
+ghost use Rattle.dn_top.specs.Command.{OptionsInRange};
 ghost use Rattle.run_replay.specs.Document.{FitsDocument, IsTrace};
 ghost use Rattle.dn_top.specs.Answers.{IsRunOfText};
 ghost use Rattle.run_report.specs.Texts.{IsStop, IsUnfit};
@@ -9,8 +9,8 @@ ghost use Rattle.checked_runs.specs.Runs.{IsPrintable};
 ghost use Rattle.dn_machine.specs.Settings.{IsSettingOf};
 ghost use Rattle.dn_top.specs.Runs.{shape_for, IsRunFor};
 
+use crate::options::Options;
 use crate::runs::{has_each_kind, shape_of};
-use command_words::Options;
 use dn_base::{Gate, Memory};
 use dn_machine::{Machine, RunRecord, a_machine_is_kept};
 use effect_checker::Checked;

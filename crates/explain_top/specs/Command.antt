@@ -3,7 +3,7 @@ use Rattle.std.specs.Prelude.{true, List, codes, Option, Some}
 use Rattle.clap.specs.Walk.{Rule, Text, first_of}
 use Rattle.clap.specs.Simple.{App, new_app, new_rule, with_rule}
 use Rattle.clap.specs.declared.builder.action.ArgAction.TheVariants.{Set}
-use Rattle.command_words.specs.Words.{bare, faults_in, values_in, where_taken}
+use Rattle.program_outside.specs.Words.{bare, faults_in, values_in, where_taken}
 
 -- one required word: the name of a text
 abbrev pub name_rule : Rule

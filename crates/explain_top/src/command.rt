@@ -1,10 +1,10 @@
 ghost use Rattle.std.specs.Prelude.{◌≡◌, IfOk, IfErr, map, option_map, string_bytes, Some, None};
 ghost use Rattle.clap.specs.Words.{app_of, rows_of, found_of, first_of};
-ghost use Rattle.command_words.specs.declared.words.WordsFault.TheVariants.{Usage};
+ghost use Rattle.program_outside.specs.declared.words.WordsFault.TheVariants.{Usage};
 ghost use Rattle.explain_top.specs.Command.{explain_command, name_in};
 
 use clap::{Arg, ArgAction, ArgMatches, Command};
-use command_words::{WordsFault, bare_command, matches_by, with_option};
+use program_outside::{WordsFault, bare_command, matches_by, with_option};
 use std::alloc::{AllocError, Global};
 
 /// The command with its one word.
@@ -31,7 +31,7 @@ fn text_of<'a>(matches: &ArgMatches<'a>, id: &str) -> Option<&'a str>
 ///
 /// # Errors
 /// `Usage` if the command doesn't take the words, `Memory` if there is no room to read them.
-#[tactic(auto, unfolding(crate::specs::Command::name_in), using(crate::proofs::Commands::is_free, command_words::proofs::Commands::not_taken))]
+#[tactic(auto, unfolding(crate::specs::Command::name_in), using(crate::proofs::Commands::is_free, program_outside::proofs::Commands::not_taken))]
 pub fn text_name<'a>(alloc: Global, words: &'a [String]) -> Result<&'a str, WordsFault>
     ensures taken { IfOk result (λ name. name_in (map string_bytes words.entry.now) ≡ Some name.now) }
     ensures usage { IfErr result (λ fault. fault ≡ Usage → name_in (map string_bytes words.entry.now) ≡ None) }

@@ -9,8 +9,7 @@ mod texts;
 
 pub use answering::{Explanation, answer};
 pub use command::text_name;
-pub use command_words::WordsFault;
 pub use program::{explain_given, explain_program};
-pub use program_outside::ReadError;
+pub use program_outside::{ReadError, WordsFault};
 pub use serving::{Explain, explain_main};
 pub use texts::Texts;

@@ -7,9 +7,8 @@ ghost use Rattle.explain_top.specs.Serving.{IsNamedServed, Serves, texts_of};
 use crate::answering::{Explanation, answer};
 use crate::command::text_name;
 use crate::texts::Texts;
-use command_words::WordsFault;
 use dn_base::{MOST_OF_TEXT, Memory, Sequence, Sink, Source, Status};
-use program_outside::{Answers, ReadError, refuse_words, serve};
+use program_outside::{Answers, ReadError, WordsFault, refuse_words, serve};
 use std::alloc::Global;
 
 /// The program explain: from a text and the answer that denovo or the referee printed for it to the answer explained.

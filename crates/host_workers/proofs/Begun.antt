@@ -14,16 +14,16 @@ use Rattle.grant_log.specs.declared.posted.Posted.{Posted}
 use Rattle.bank_hall.specs.declared.bank.Handled.{Handled}
 use Rattle.bank_hall.specs.Note.{KeeperNote}
 use Rattle.grant_log.specs.Stamps.{has_numbers_left}
-use Rattle.round_rules.specs.Members.{ActorParts, NodeIs, Member}
-use Rattle.round_rules.specs.Steps.{Done, Goes, clock_after}
-use Rattle.round_rules.specs.Acts.{Act, Stepped, Kept, is_act_of}
-use Rattle.round_rules.specs.Passes.{IsCorePass, held_member, own_acts, taken_steps}
-use Rattle.round_rules.specs.Rounds.{owner}
-use Rattle.round_rules.specs.Beginnings.{HasBegun, HaveBegun, OwnComesNext}
-use Rattle.round_rules.proofs.MachineParts.{there}
-use Rattle.round_rules.proofs.Numbers.{is-below}
-use Rattle.round_rules.proofs.Reaching.{reached-numbers}
-use Rattle.round_rules.proofs.SameMails.{itself}
+use Rattle.host_workers.specs.Members.{ActorParts, NodeIs, Member}
+use Rattle.host_workers.specs.Steps.{Done, Goes, clock_after}
+use Rattle.host_workers.specs.Acts.{Act, Stepped, Kept, is_act_of}
+use Rattle.host_workers.specs.Passes.{IsCorePass, held_member, own_acts, taken_steps}
+use Rattle.host_workers.specs.Rounds.{owner}
+use Rattle.host_workers.specs.Beginnings.{HasBegun, HaveBegun, OwnComesNext}
+use Rattle.host_workers.proofs.MachineParts.{there}
+use Rattle.host_workers.proofs.Numbers.{is-below}
+use Rattle.host_workers.proofs.Reaching.{reached-numbers}
+use Rattle.host_workers.proofs.SameMails.{itself}
 use Rattle.host_workers.specs.declared.crew.BankLog.{BankLog}
 use Rattle.host_workers.specs.declared.finishing.Finished.{Finished}
 use Rattle.host_workers.specs.declared.owned.Owned.{Owned}

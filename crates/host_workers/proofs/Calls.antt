@@ -10,8 +10,8 @@ use Rattle.grant_log.specs.declared.posted.Posted.{Posted}
 use Rattle.bank_hall.specs.Note.{KeeperNote, letter_to}
 use Rattle.bank_hall.specs.Rows.{made_of}
 use Rattle.bank_hall.specs.Halls.{PassView, Calls, HasMadeCalls, pass_number}
-use Rattle.round_rules.specs.Acts.{Act, no_calls, and_then, try_calls, posting, postings, posted_by, act_done, act_calls, calls_in, events_in}
-use Rattle.round_rules.proofs.Appended.{calls-follow}
+use Rattle.host_workers.specs.Acts.{Act, no_calls, and_then, try_calls, posting, postings, posted_by, act_done, act_calls, calls_in, events_in}
+use Rattle.host_workers.proofs.Appended.{calls-follow}
 use Rattle.host_workers.specs.Work.{Splits, HasActed, HasBegunPosts, HasStopped, last_sent}
 
 pub splits-both : (first more : Calls) → Splits (and_then first more) first more

@@ -2,7 +2,7 @@
 use Rattle.std.proofs.Common.{◌≡◌, ℕ, zero, suc, ◌<◌, ◌==◌, Bool, true, false, cond, List, [], ◌∷◌, Option, Some, None, slice_get, refl, sym, ap, subst, ◌∙◌, arith}
 use Rattle.std.specs.Prelude.{filter}
 use Rattle.std.proofs.lemmas.Bool.{eqb-true, eqb-false}
-use Rattle.round_rules.proofs.Weights.{filter-true, filter-false}
+use Rattle.host_workers.proofs.Weights.{filter-true, filter-false}
 
 -- where there is something for each number below n, one function has it
 pub chosen : {A : Type 0} (P : ℕ → A → Type 0) (d : A) (n : ℕ) → ((k : ℕ) → k < n → (a : A) × P k a) → (f : ℕ → A) × ((k : ℕ) → k < n → P k (f k))

@@ -14,9 +14,9 @@ use Rattle.message_net.specs.declared.actor.Actor.{Actor}
 use Rattle.message_net.specs.declared.actor.Actor.TheVariants.{Core, Bank, Keeper}
 use Rattle.registration_protocol.specs.Node.{Setting}
 use Rattle.bank_hall.specs.Halls.{PassView, pass_number}
-use Rattle.round_rules.specs.Acts.{Act, actor_of, is_act_of, tried_in, events_in, note_of}
-use Rattle.round_rules.specs.Passes.{own_acts, tries_of}
-use Rattle.round_rules.specs.Steps.{Done}
+use Rattle.host_workers.specs.Acts.{Act, actor_of, is_act_of, tried_in, events_in, note_of}
+use Rattle.host_workers.specs.Passes.{own_acts, tries_of}
+use Rattle.host_workers.specs.Steps.{Done}
 use Rattle.message_net.specs.declared.event.Event.{Event}
 use Rattle.host_workers.specs.declared.crew.BankLog.{BankLog}
 use Rattle.host_workers.specs.declared.crew.Crew.{Crew}

@@ -5,7 +5,7 @@ use Rattle.std.proofs.lemmas.List.{take_more, drop_more, append-nil, reverse-app
 use Rattle.std.proofs.lemmas.List.Elements.{filter-append}
 use Rattle.grant_log.specs.declared.log.Stamped.{Stamped}
 use Rattle.message_net.specs.declared.actor.Actor.{Actor}
-use Rattle.round_rules.specs.Rounds.{owner}
+use Rattle.host_workers.specs.Rounds.{owner}
 use Rattle.run_agreement.proofs.Places.{by-place, set-length, get-cases}
 use Rattle.host_workers.specs.declared.crew.BankLog.{BankLog}
 use Rattle.host_workers.specs.declared.crew.Crew.{Crew}

@@ -17,7 +17,7 @@ use Rattle.machine_rules.proofs.RunsCoherent.{first_memory, run-all}
 use Rattle.dn_machine.specs.Ends.{EndTable, end_index, with_end, no_ends, AreLastEnds}
 use Rattle.dn_machine.proofs.LogLemmas.{log-opened}
 use Rattle.dn_machine.proofs.ScheduleLaws.{after-more}
-use Rattle.round_rules.specs.Rounds.{end_observed}
+use Rattle.host_workers.specs.Rounds.{end_observed}
 use Rattle.host_workers.specs.Ends.{with_ends}
 use Rattle.host_workers.proofs.EndPlaces.{own-noted, other-noted}
 use Rattle.host_workers.proofs.EndsNoted.{IsNoted, IsLast, stays-noted, begins-noted, arrives-noted}

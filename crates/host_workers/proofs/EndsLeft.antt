@@ -12,11 +12,11 @@ use Rattle.message_net.specs.declared.actor.Actor.TheVariants.{Core, Bank, Keepe
 use Rattle.message_net.specs.Id.{same_actor}
 use Rattle.message_net.proofs.PoolLemmas.{same_actor-true, same_actor-refl}
 use Rattle.grant_log.specs.declared.log.Stamped.{Stamped}
-use Rattle.round_rules.specs.declared.end_seen.EndSeen.{EndSeen}
-use Rattle.round_rules.specs.Steps.{Done}
-use Rattle.round_rules.specs.Acts.{note_of}
-use Rattle.round_rules.specs.Passes.{end_seen, seen_at}
-use Rattle.round_rules.specs.Rounds.{core_at, done_by, end_of_done}
+use Rattle.host_workers.specs.declared.end_seen.EndSeen.{EndSeen}
+use Rattle.host_workers.specs.Steps.{Done}
+use Rattle.host_workers.specs.Acts.{note_of}
+use Rattle.host_workers.specs.Passes.{end_seen, seen_at}
+use Rattle.host_workers.specs.Rounds.{core_at, done_by, end_of_done}
 use Rattle.host_workers.specs.Ends.{IsStampedBefore, EndIsOfCore, AreEndsOf, left_of, first_at, behind_at, end_at_stamp, left_behind}
 
 -- ---- the ends of a core's events

@@ -21,7 +21,7 @@ use Rattle.machine_rules.specs.State.{State}
 use Rattle.machine_rules.specs.Next.{next, enabled, when_there}
 use Rattle.machine_rules.proofs.Invariant.{Invariant}
 use Rattle.machine_rules.proofs.Steps.{Handled, handled, instr-step, evict-step, arrive-step, core-step, bank-step, keeper-step}
-use Rattle.round_rules.specs.Rounds.{end_observed, end_of_node}
+use Rattle.host_workers.specs.Rounds.{end_observed, end_of_node}
 use Rattle.host_workers.specs.Ends.{node_standing}
 use Rattle.host_workers.proofs.Standing.{Stays, Begins, Arrives, RestsThere, instr-stays, evict-stays, arrive-arrives, gets-on}
 

@@ -9,10 +9,10 @@ use Rattle.message_net.specs.declared.actor.Actor.TheVariants.{Core, Bank, Keepe
 use Rattle.message_net.specs.Id.{same_actor}
 use Rattle.message_net.proofs.PoolLemmas.{same_actor-true}
 use Rattle.registration_protocol.specs.Node.{Setting}
-use Rattle.round_rules.specs.Acts.{Act, Took, Made, Stepped, Kept, is_act_of, core_step, events_in, note_of}
-use Rattle.round_rules.specs.Steps.{Goes, clock_after}
+use Rattle.host_workers.specs.Acts.{Act, Took, Made, Stepped, Kept, is_act_of, core_step, events_in, note_of}
+use Rattle.host_workers.specs.Steps.{Goes, clock_after}
 use Rattle.grant_log.specs.Stamps.{has_numbers_left}
-use Rattle.round_rules.specs.Passes.{Held, HasGone, IsCorePass, end_seen, held_member, own_acts}
+use Rattle.host_workers.specs.Passes.{Held, HasGone, IsCorePass, end_seen, held_member, own_acts}
 use Rattle.registration_protocol.specs.OwnEvents.{own_event}
 use Rattle.host_workers.specs.Deeds.{HasMoved, step_note, step_end}
 use Rattle.host_workers.specs.Work.{AreOf, IsTurn}

@@ -13,11 +13,11 @@ use Rattle.machine_rules.specs.Flight.{bit}
 use Rattle.registration_protocol.specs.Node.{Setting}
 use Rattle.grant_log.specs.declared.posted.Posted.{Posted}
 use Rattle.bank_hall.specs.Halls.{IsInboxOf}
-use Rattle.round_rules.specs.Members.{IsIn}
-use Rattle.round_rules.specs.Steps.{with_stamp}
-use Rattle.round_rules.specs.Rounds.{actors, IsInbox}
-use Rattle.round_rules.proofs.Actors.{actor-once}
-use Rattle.round_rules.proofs.Weights.{filter-true, filter-false}
+use Rattle.host_workers.specs.Members.{IsIn}
+use Rattle.host_workers.specs.Steps.{with_stamp}
+use Rattle.host_workers.specs.Rounds.{actors, IsInbox}
+use Rattle.host_workers.proofs.Actors.{actor-once}
+use Rattle.host_workers.proofs.Weights.{filter-true, filter-false}
 use Rattle.host_workers.specs.Inboxes.{goes_to, inbox_at_first}
 
 -- ---- one mail more

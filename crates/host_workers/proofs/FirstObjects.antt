@@ -15,7 +15,7 @@ use Rattle.bank_hall.specs.Banks.{BankActorParts}
 use Rattle.bank_hall.specs.Ports.{PortParts}
 use Rattle.bank_hall.specs.Keepers.{KeeperActorParts}
 use Rattle.bank_hall.specs.Halls.{AreHallParts, IsInboxOf}
-use Rattle.round_rules.specs.Rounds.{core_at, bank_at, bank_in, keeper_in}
+use Rattle.host_workers.specs.Rounds.{core_at, bank_at, bank_in, keeper_in}
 use Rattle.host_workers.specs.Inboxes.{InboxParts, inbox_at_first, AreFirstInboxes, bank_parts, bank_inbox, bank_number, port_mails, AreObjectsOf, AreAtFirst}
 use Rattle.host_workers.proofs.FirstInboxes.{first-inbox}
 

@@ -10,7 +10,7 @@ use Rattle.phase_barrier.specs.Barrier.{Barrier}
 use Rattle.bank_hall.specs.Banks.{BankActorParts}
 use Rattle.bank_hall.specs.Ports.{PortParts}
 use Rattle.bank_hall.specs.Keepers.{KeeperActorParts}
-use Rattle.round_rules.proofs.Mapped.{long-map}
+use Rattle.host_workers.proofs.Mapped.{long-map}
 use Rattle.host_workers.specs.Inboxes.{InboxParts, AreObjectsOf, bank_parts, bank_inbox, bank_number, port_mails}
 
 pub mapped-at : {A B : Type 0} (g : A → B) (xs : List A) (k : ℕ) (x : A) → slice_get xs k ≡ Some x → slice_get (map g xs) k ≡ Some (g x)

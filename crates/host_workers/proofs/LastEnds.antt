@@ -25,7 +25,7 @@ use Rattle.machine_rules.proofs.RestNodes.{over-quiet, IsIdle, still-goes}
 use Rattle.machine_rules.proofs.RunsKept.{memory_over, run-setting}
 use Rattle.machine_rules.proofs.RunsCoherent.{first_memory, run-all, run-rests}
 use Rattle.dn_machine.specs.Ends.{EndTable, end_index, no_ends, AreLastEnds}
-use Rattle.round_rules.specs.Rounds.{end_observed}
+use Rattle.host_workers.specs.Rounds.{end_observed}
 use Rattle.host_workers.specs.Ends.{with_ends, node_standing, last_ends, ends_of_run}
 use Rattle.host_workers.proofs.EndPlaces.{AreFrom, none-noted, one-noted}
 use Rattle.host_workers.proofs.EndsNoted.{IsNoted, in-phase, out-of-phase}

@@ -13,7 +13,7 @@ use Rattle.registration_protocol.specs.Node.{Setting}
 use Rattle.bank_hall.specs.Banks.{BankActorParts}
 use Rattle.bank_hall.specs.Ports.{PortParts}
 use Rattle.bank_hall.specs.Keepers.{KeeperActorParts}
-use Rattle.round_rules.specs.Rounds.{actors, core_at, bank_at}
+use Rattle.host_workers.specs.Rounds.{actors, core_at, bank_at}
 use Rattle.host_workers.specs.Inboxes.{InboxParts, inbox_of as inbox_in, all_posted, bank_inbox, port_mails, AreObjectsOf}
 
 module _ {X : Type 0} where

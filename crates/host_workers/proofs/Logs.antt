@@ -15,16 +15,16 @@ use Rattle.registration_protocol.specs.Node.{Setting}
 use Rattle.machine_rules.specs.State.{State}
 use Rattle.machine_rules.specs.Sound.{IsMachine}
 use Rattle.machine_rules.specs.Flight.{bit}
-use Rattle.round_rules.specs.Members.{Member, Deed, Handles, Makes, IsIn, member}
-use Rattle.round_rules.specs.Steps.{Step, Done, stamp_of, deed_stamp, Goes}
-use Rattle.round_rules.specs.Acts.{note_of, events_by, notes_by, steps_by}
-use Rattle.round_rules.specs.Rounds.{Round, owner, actors, bank_at, bank_in, keeper_in, IsHallClosed, HaveWorked, IsMerged}
-use Rattle.round_rules.proofs.Actors.{actor-once, all-inside, each-actor}
-use Rattle.round_rules.proofs.Joining.{noted, bank-history, keeper-history}
-use Rattle.round_rules.proofs.Numbers.{below-bound}
-use Rattle.round_rules.proofs.Objects.{step_done, bank-part, keeper-part}
-use Rattle.round_rules.proofs.Traces.{steps-tell}
-use Rattle.round_rules.proofs.Weaving.{step_note}
+use Rattle.host_workers.specs.Members.{Member, Deed, Handles, Makes, IsIn, member}
+use Rattle.host_workers.specs.Steps.{Step, Done, stamp_of, deed_stamp, Goes}
+use Rattle.host_workers.specs.Acts.{note_of, events_by, notes_by, steps_by}
+use Rattle.host_workers.specs.Rounds.{Round, owner, actors, bank_at, bank_in, keeper_in, IsHallClosed, HaveWorked, IsMerged}
+use Rattle.host_workers.proofs.Actors.{actor-once, all-inside, each-actor}
+use Rattle.host_workers.proofs.Joining.{noted, bank-history, keeper-history}
+use Rattle.host_workers.proofs.Numbers.{below-bound}
+use Rattle.host_workers.proofs.Objects.{step_done, bank-part, keeper-part}
+use Rattle.host_workers.proofs.Traces.{steps-tell}
+use Rattle.host_workers.proofs.Weaving.{step_note}
 use Rattle.host_workers.proofs.LogLists.{IsOf, pairs-mapped, differ, logs-apart, merge-all, merge-own, merge-rises, merge-strict}
 
 -- what was noted of an actor's events in a round

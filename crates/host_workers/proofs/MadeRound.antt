@@ -23,26 +23,26 @@ use Rattle.machine_rules.specs.Sound.{IsMachine, rounds}
 use Rattle.dn_machine.specs.Kept.{Made, IsKept}
 use Rattle.dn_machine.specs.Parts.{IsReordered}
 use Rattle.dn_machine.proofs.PartsLemmas.{kept-run, kept-reordered}
-use Rattle.round_rules.specs.Members.{IsIn}
-use Rattle.round_rules.specs.Steps.{Done}
-use Rattle.round_rules.specs.Acts.{notes_by}
-use Rattle.round_rules.specs.Beginnings.{AllHaveActed}
-use Rattle.round_rules.specs.Unspent.{AreUnspent}
-use Rattle.round_rules.specs.Owners.{AreOwners}
-use Rattle.round_rules.specs.Entries.{AreAnswers, AreGivenMails}
-use Rattle.round_rules.specs.NextNumbers.{AreNumbersLow}
-use Rattle.round_rules.specs.Rounds as rules
-use Rattle.round_rules.specs.Rounds.{owner, actors, core_at, bank_at, mail_in, noted_event, events_of, end_of_done, IsReached, IsJoined, IsRoundOf, AreInboxes}
-use Rattle.round_rules.proofs.Mapped.{long-map, map-map, same-places}
-use Rattle.round_rules.proofs.MachineParts.{there}
-use Rattle.round_rules.proofs.MachineMoves.{reached-inside}
-use Rattle.round_rules.proofs.Reaching.{reached-machine, reached-run, reached-few, most-rounds}
-use Rattle.round_rules.proofs.RoundRuns.{round-runs}
-use Rattle.round_rules.proofs.Beginning.{all-acted}
-use Rattle.round_rules.proofs.NeverSpent.{never-spent}
-use Rattle.round_rules.proofs.Owning.{have-owners}
-use Rattle.round_rules.proofs.Telling.{answers-told, mails-given}
-use Rattle.round_rules.proofs.MailsSent.{numbers-low}
+use Rattle.host_workers.specs.Members.{IsIn}
+use Rattle.host_workers.specs.Steps.{Done}
+use Rattle.host_workers.specs.Acts.{notes_by}
+use Rattle.host_workers.specs.Beginnings.{AllHaveActed}
+use Rattle.host_workers.specs.Unspent.{AreUnspent}
+use Rattle.host_workers.specs.Owners.{AreOwners}
+use Rattle.host_workers.specs.Entries.{AreAnswers, AreGivenMails}
+use Rattle.host_workers.specs.NextNumbers.{AreNumbersLow}
+use Rattle.host_workers.specs.Rounds as rules
+use Rattle.host_workers.specs.Rounds.{owner, actors, core_at, bank_at, mail_in, noted_event, events_of, end_of_done, IsReached, IsJoined, IsRoundOf, AreInboxes}
+use Rattle.host_workers.proofs.Mapped.{long-map, map-map, same-places}
+use Rattle.host_workers.proofs.MachineParts.{there}
+use Rattle.host_workers.proofs.MachineMoves.{reached-inside}
+use Rattle.host_workers.proofs.Reaching.{reached-machine, reached-run, reached-few, most-rounds}
+use Rattle.host_workers.proofs.RoundRuns.{round-runs}
+use Rattle.host_workers.proofs.Beginning.{all-acted}
+use Rattle.host_workers.proofs.NeverSpent.{never-spent}
+use Rattle.host_workers.proofs.Owning.{have-owners}
+use Rattle.host_workers.proofs.Telling.{answers-told, mails-given}
+use Rattle.host_workers.proofs.MailsSent.{numbers-low}
 use Rattle.host_workers.specs.declared.finishing.Finished.{Finished}
 use Rattle.host_workers.specs.Ends.{IsStampedBefore, AreEndsOf}
 use Rattle.host_workers.specs.Inboxes.{inboxes_of}

@@ -6,9 +6,9 @@ use Rattle.dn_base.specs.declared.ids.CoreId.{CoreId}
 use Rattle.message_net.specs.declared.actor.Actor.{Actor}
 use Rattle.message_net.specs.declared.actor.Actor.TheVariants.{Core}
 use Rattle.registration_protocol.specs.Node.{Setting}
-use Rattle.round_rules.specs.Members.{Member, after_deed}
-use Rattle.round_rules.specs.Steps.{Step, Goes, clock_after, stamp_of}
-use Rattle.round_rules.specs.Passes.{Held, held_member}
+use Rattle.host_workers.specs.Members.{Member, after_deed}
+use Rattle.host_workers.specs.Steps.{Step, Goes, clock_after, stamp_of}
+use Rattle.host_workers.specs.Passes.{Held, held_member}
 use Rattle.host_workers.specs.Deeds.{HasMoved, step_note, step_end}
 
 pub goes-both : (C : Setting) (a : Actor) (clock : ℕ) (x y z : Member) (xs ys : List Step) → Goes C a clock x xs y → Goes C a (clock_after clock xs) y ys z → Goes C a clock x (xs ++ ys) z

@@ -3,7 +3,7 @@ use Rattle.std.proofs.Common.{◌≡◌, ℕ, ◌+◌, List, [], ◌++◌, refl,
 use Rattle.std.proofs.lemmas.List.{append-nil}
 use Rattle.registration_protocol.specs.Node.{Setting}
 use Rattle.bank_hall.specs.Halls.{PassView, pass_number}
-use Rattle.round_rules.specs.Acts.{Act}
+use Rattle.host_workers.specs.Acts.{Act}
 use Rattle.host_workers.specs.declared.crew.BankLog.{BankLog}
 use Rattle.host_workers.specs.declared.crew.Crew.{Crew}
 use Rattle.host_workers.specs.declared.owned.Owned.{Owned}

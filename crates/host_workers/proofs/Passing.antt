@@ -8,12 +8,12 @@ use Rattle.grant_log.specs.declared.log.Stamped.{Stamped}
 use Rattle.message_net.specs.declared.actor.Actor.TheVariants.{Bank, Keeper}
 use Rattle.registration_protocol.specs.Node.{Setting}
 use Rattle.bank_hall.specs.Halls.{PassView, HasMadeCalls, pass_number}
-use Rattle.round_rules.specs.Acts.{Act, actor_of, notes_by, calls_in}
-use Rattle.round_rules.specs.Passes.{HasGone}
+use Rattle.host_workers.specs.Acts.{Act, actor_of, notes_by, calls_in}
+use Rattle.host_workers.specs.Passes.{HasGone}
 use Rattle.host_workers.specs.declared.crew.Crew.{Crew}
 use Rattle.host_workers.specs.Crews.{held_of, owned_core, bank_of, keeper_log}
 use Rattle.host_workers.specs.Pass.{actors_of, IsActOf, HasMore, IsCrewAfter, IsWork, HasWorked, HasWorkedOn}
-use Rattle.round_rules.proofs.Appended.{calls-follow, notes-follow, cores-follow}
+use Rattle.host_workers.proofs.Appended.{calls-follow, notes-follow, cores-follow}
 use Rattle.host_workers.proofs.Crewed.{is_some-map}
 
 more-both : (xs ys : List Stamped) (a b c : Option (List Stamped)) → HasMore xs a b → HasMore ys b c → HasMore (xs ++ ys) a c

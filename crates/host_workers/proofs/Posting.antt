@@ -7,7 +7,7 @@ use Rattle.message_net.specs.Id.{same_id}
 use Rattle.message_net.specs.Pool.{of_id, count_of, AreDistinct}
 use Rattle.message_net.proofs.PoolLemmas.{same_id-refl}
 use Rattle.grant_log.specs.declared.posted.Posted.{Posted}
-use Rattle.round_rules.specs.Rounds.{mail_in}
+use Rattle.host_workers.specs.Rounds.{mail_in}
 use Rattle.host_workers.specs.Inboxes.{InboxParts, all_mails_in, all_posted}
 
 -- the front of a list has ids of its own if the list has

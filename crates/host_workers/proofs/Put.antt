@@ -12,8 +12,8 @@ use Rattle.message_net.specs.declared.message.Mail.{Mail}
 use Rattle.message_net.specs.Id.{same_actor}
 use Rattle.message_net.proofs.PoolLemmas.{same_actor-refl}
 use Rattle.grant_log.specs.declared.posted.Posted.{Posted}
-use Rattle.round_rules.specs.Steps.{with_stamp}
-use Rattle.round_rules.specs.Rounds.{core_at, bank_at}
+use Rattle.host_workers.specs.Steps.{with_stamp}
+use Rattle.host_workers.specs.Rounds.{core_at, bank_at}
 use Rattle.host_workers.specs.Inboxes.{InboxParts, put_at, put_in, goes_to, mails_to, inbox_at_first, AreFirstInboxes}
 
 -- ---- one inbox

@@ -1,7 +1,7 @@
 -- The state of a machine that is joined again.
 use Rattle.std.proofs.Common.{◌≡◌, ◌++◌, map}
 use Rattle.registration_protocol.specs.Node.{Setting}
-use Rattle.round_rules.specs.Rounds.{mail_in}
+use Rattle.host_workers.specs.Rounds.{mail_in}
 use Rattle.host_workers.specs.declared.finishing.Finished.{Finished}
 use Rattle.host_workers.specs.declared.opening.Moving.{Moving}
 use Rattle.host_workers.specs.declared.round.FixedParts.{FixedParts}

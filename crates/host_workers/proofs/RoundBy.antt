@@ -16,10 +16,10 @@ use Rattle.dn_machine.specs.Pick.{pick, picked, known_events, handlings}
 use Rattle.dn_machine.proofs.PickLaws.{known-own, pick-none}
 use Rattle.message_net.specs.declared.actor.Actor.{Actor}
 use Rattle.message_net.specs.declared.actor.Actor.TheVariants.{Core}
-use Rattle.round_rules.specs.Beginnings.{AllHaveActed, HasEvent}
-use Rattle.round_rules.specs.Rounds as rules
-use Rattle.round_rules.specs.Rounds.{IsReached, events_of, noted_kind, end_observed}
-use Rattle.round_rules.proofs.Reaching.{reached-machine, reached-setting}
+use Rattle.host_workers.specs.Beginnings.{AllHaveActed, HasEvent}
+use Rattle.host_workers.specs.Rounds as rules
+use Rattle.host_workers.specs.Rounds.{IsReached, events_of, noted_kind, end_observed}
+use Rattle.host_workers.proofs.Reaching.{reached-machine, reached-setting}
 use Rattle.host_workers.specs.declared.round.Round.{Round}
 use Rattle.host_workers.specs.Opening.{StandsFor}
 use Rattle.host_workers.specs.MadeRounds.{IsMadeRound}

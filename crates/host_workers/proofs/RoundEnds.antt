@@ -12,16 +12,16 @@ use Rattle.message_net.proofs.PoolLemmas.{same_actor-refl, same_actor-true}
 use Rattle.grant_log.specs.declared.log.Stamped.{Stamped}
 use Rattle.registration_protocol.specs.Node.{Setting}
 use Rattle.machine_rules.specs.State.{State}
-use Rattle.round_rules.specs.declared.end_seen.EndSeen.{EndSeen}
-use Rattle.round_rules.specs.Members.{IsIn}
-use Rattle.round_rules.specs.Steps.{Done}
-use Rattle.round_rules.specs.Acts.{Act, Took, Made, Stepped, Kept, is_act_of, actor_of, events_in, events_by, note_of}
-use Rattle.round_rules.specs.Passes.{end_seen}
-use Rattle.round_rules.specs.Rounds.{owner, core_at, IsJoined, AreToldInOrder, done_by}
-use Rattle.round_rules.proofs.MachineParts.{there}
-use Rattle.round_rules.proofs.Mapped.{long-map, all-map}
-use Rattle.round_rules.proofs.Numbers.{below-bound, is-below}
-use Rattle.round_rules.proofs.Weights.{filter-true, filter-false}
+use Rattle.host_workers.specs.declared.end_seen.EndSeen.{EndSeen}
+use Rattle.host_workers.specs.Members.{IsIn}
+use Rattle.host_workers.specs.Steps.{Done}
+use Rattle.host_workers.specs.Acts.{Act, Took, Made, Stepped, Kept, is_act_of, actor_of, events_in, events_by, note_of}
+use Rattle.host_workers.specs.Passes.{end_seen}
+use Rattle.host_workers.specs.Rounds.{owner, core_at, IsJoined, AreToldInOrder, done_by}
+use Rattle.host_workers.proofs.MachineParts.{there}
+use Rattle.host_workers.proofs.Mapped.{long-map, all-map}
+use Rattle.host_workers.proofs.Numbers.{below-bound, is-below}
+use Rattle.host_workers.proofs.Weights.{filter-true, filter-false}
 use Rattle.host_workers.specs.declared.finishing.Finished.{Finished}
 use Rattle.host_workers.specs.Ends.{IsStampedBefore, EndIsOfCore, AreEndsOf}
 use Rattle.host_workers.specs.Rosters.{core_ends}

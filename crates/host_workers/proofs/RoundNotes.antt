@@ -18,7 +18,7 @@ use Rattle.dn_machine.specs.declared.log.Happened.{Happened}
 use Rattle.dn_machine.specs.declared.log.Log.{Log}
 use Rattle.dn_machine.specs.Ends.{EndTable, end_at, with_end}
 use Rattle.dn_machine.specs.Log.{with_event}
-use Rattle.round_rules.specs.Rounds.{events_of, noted_event, noted_kind}
+use Rattle.host_workers.specs.Rounds.{events_of, noted_event, noted_kind}
 use Rattle.host_workers.specs.Ends.{with_ends, node_standing}
 use Rattle.host_workers.specs.RoundOf.{IsTallied, HasNoted}
 

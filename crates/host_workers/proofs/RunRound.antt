@@ -14,11 +14,11 @@ use Rattle.machine_rules.specs.Sound.{IsMachine}
 use Rattle.dn_machine.specs.Kept.{IsKept}
 use Rattle.bank_hall.specs.Halls.{HallView, IsHallPass}
 use Rattle.bank_hall.specs.Closing.{AreAllHallPasses}
-use Rattle.round_rules.specs.Members.{IsIn}
-use Rattle.round_rules.specs.Rounds.{owner}
-use Rattle.round_rules.proofs.Mapped.{long-map, stands-map}
-use Rattle.round_rules.proofs.MachineMoves.{reached-inside}
-use Rattle.round_rules.proofs.MachineParts.{there}
+use Rattle.host_workers.specs.Members.{IsIn}
+use Rattle.host_workers.specs.Rounds.{owner}
+use Rattle.host_workers.proofs.Mapped.{long-map, stands-map}
+use Rattle.host_workers.proofs.MachineMoves.{reached-inside}
+use Rattle.host_workers.proofs.MachineParts.{there}
 use Rattle.host_workers.specs.declared.crew.BankLog.{BankLog}
 use Rattle.host_workers.specs.declared.crew.Crew.{Crew}
 use Rattle.host_workers.specs.declared.owned.Owned.{Owned}

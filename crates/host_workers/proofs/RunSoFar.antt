@@ -30,7 +30,7 @@ use Rattle.dn_machine.specs.Parts.{IsReordered}
 use Rattle.dn_machine.specs.Run.{IsRecord, IsCoherentRun}
 use Rattle.dn_machine.proofs.LogLemmas.{log-opened}
 use Rattle.dn_machine.proofs.RunLemmas.{ready-of, ending-true, complete-run-of, recorded}
-use Rattle.round_rules.specs.Rounds.{IsReached, events_of, noted_kind, noted_event, end_observed}
+use Rattle.host_workers.specs.Rounds.{IsReached, events_of, noted_kind, noted_event, end_observed}
 use Rattle.host_workers.specs.declared.round.Round.{Round}
 use Rattle.host_workers.specs.Ends.{with_ends, last_ends, ends_of_run}
 use Rattle.host_workers.specs.Opening.{StandsFor}

@@ -9,10 +9,10 @@ use Rattle.registration_protocol.specs.Node.{Setting}
 use Rattle.registration_protocol.specs.OwnEvents.{own_event}
 use Rattle.grant_log.specs.declared.posted.Posted.{Posted}
 use Rattle.bank_hall.specs.Halls.{PassView, pass_number}
-use Rattle.round_rules.specs.Acts.{Act, Took, core_step, taken_step}
-use Rattle.round_rules.specs.Steps.{Done}
+use Rattle.host_workers.specs.Acts.{Act, Took, core_step, taken_step}
+use Rattle.host_workers.specs.Steps.{Done}
 use Rattle.grant_log.specs.Stamps.{has_numbers_left}
-use Rattle.round_rules.specs.Passes.{Held, own_acts, taken_steps}
+use Rattle.host_workers.specs.Passes.{Held, own_acts, taken_steps}
 use Rattle.host_workers.specs.Deeds.{HasMoved, own_steps}
 use Rattle.host_workers.specs.Work.{HasActed, HasTaken, HasMadeOwn, HasStopped, AreOf, IsTurn, HasDoneActs, HaveDone, HasDonePartly, HaveDonePartly, Each, in_one_list}
 use Rattle.host_workers.proofs.Calls.{acted-none, acted-both, stopped-after}

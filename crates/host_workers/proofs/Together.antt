@@ -20,15 +20,15 @@ use Rattle.bank_hall.specs.Ports.{PortParts}
 use Rattle.bank_hall.specs.Keepers.{KeeperActorParts}
 use Rattle.bank_hall.specs.Halls.{HallView, bank_answer, bank_next, port_answer, port_next, keeper_answer, keeper_next, PassView, IsNewPass, AreNewPasses}
 use Rattle.bank_hall.specs.Closing.{IsToldPass, history_of}
-use Rattle.round_rules.specs.Members.{member}
-use Rattle.round_rules.specs.Acts.{Act, steps_by}
-use Rattle.round_rules.specs.Steps.{Goes}
-use Rattle.round_rules.specs.Passes.{held_member}
-use Rattle.round_rules.specs.Rounds as rules
-use Rattle.round_rules.specs.Rounds.{owner, core_at, bank_at, bank_in, keeper_in, HasSameSizes, IsBankClosed, IsKeeperClosed, IsPortClosed, IsHallClosed, HaveWorked}
-use Rattle.round_rules.proofs.MachineParts.{there}
-use Rattle.round_rules.proofs.Numbers.{remainder}
-use Rattle.round_rules.proofs.Mapped.{long-map}
+use Rattle.host_workers.specs.Members.{member}
+use Rattle.host_workers.specs.Acts.{Act, steps_by}
+use Rattle.host_workers.specs.Steps.{Goes}
+use Rattle.host_workers.specs.Passes.{held_member}
+use Rattle.host_workers.specs.Rounds as rules
+use Rattle.host_workers.specs.Rounds.{owner, core_at, bank_at, bank_in, keeper_in, HasSameSizes, IsBankClosed, IsKeeperClosed, IsPortClosed, IsHallClosed, HaveWorked}
+use Rattle.host_workers.proofs.MachineParts.{there}
+use Rattle.host_workers.proofs.Numbers.{remainder}
+use Rattle.host_workers.proofs.Mapped.{long-map}
 use Rattle.host_workers.specs.declared.finishing.Finished.{Finished}
 use Rattle.host_workers.specs.declared.owned.Owned.{Owned}
 use Rattle.host_workers.specs.Crews.{held_of}

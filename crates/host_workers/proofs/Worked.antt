@@ -8,7 +8,7 @@ use Rattle.std.proofs.lemmas.Bool.Decides.{nat_tests}
 use Rattle.std.specs.declared.cmp.Ordering.TheVariants.{Greater}
 use Rattle.message_net.specs.declared.actor.Actor.{Actor}
 use Rattle.message_net.specs.Order.{actor_order}
-use Rattle.round_rules.specs.Acts.{Act, actor_of, is_act_of}
+use Rattle.host_workers.specs.Acts.{Act, actor_of, is_act_of}
 use Rattle.host_workers.specs.Work.{AreOf, Each, in_one_list}
 use Rattle.host_workers.specs.Pass.{InTurn}
 use Rattle.host_workers.proofs.Filters.{filter-own, filter-other}

@@ -15,12 +15,12 @@ use Rattle.turn_lock.specs.Passes.{Token}
 use Rattle.bank_hall.specs.Rows.{made_by}
 use Rattle.bank_hall.specs.Halls.{Calls, HallView, BankEntry, PortEntry, KeeperEntry, IsNewPass, pass_number}
 use Rattle.bank_hall.specs.Closing.{history_of, IsToldPass}
-use Rattle.round_rules.specs.Members.{IsIn}
-use Rattle.round_rules.specs.Acts.{Act, actor_of, calls_in, notes_by}
-use Rattle.round_rules.specs.Passes.{HasGone, tries_of}
-use Rattle.round_rules.specs.Rounds.{owner, IsOwn, AreCallsOf}
-use Rattle.round_rules.proofs.SameMails.{itself}
-use Rattle.round_rules.proofs.Numbers.{is-below}
+use Rattle.host_workers.specs.Members.{IsIn}
+use Rattle.host_workers.specs.Acts.{Act, actor_of, calls_in, notes_by}
+use Rattle.host_workers.specs.Passes.{HasGone, tries_of}
+use Rattle.host_workers.specs.Rounds.{owner, IsOwn, AreCallsOf}
+use Rattle.host_workers.proofs.SameMails.{itself}
+use Rattle.host_workers.proofs.Numbers.{is-below}
 use Rattle.host_workers.specs.declared.crew.BankLog.{BankLog}
 use Rattle.host_workers.specs.declared.crew.Crew.{Crew}
 use Rattle.host_workers.specs.declared.owned.Owned.{Owned}

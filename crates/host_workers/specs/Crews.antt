@@ -8,7 +8,7 @@ use Rattle.grant_log.specs.declared.log.Stamped.{Stamped}
 use Rattle.registration_protocol.specs.Fit.{Fits}
 use Rattle.registration_protocol.specs.Node.{Setting}
 use Rattle.grant_log.specs.Stamps.{has_numbers_left}
-use Rattle.round_rules.specs.Passes.{Held}
+use Rattle.host_workers.specs.Passes.{Held}
 use Rattle.host_workers.specs.declared.crew.BankLog.{BankLog}
 use Rattle.host_workers.specs.declared.crew.Crew.{Crew}
 use Rattle.host_workers.specs.declared.owned.Owned.{Owned}

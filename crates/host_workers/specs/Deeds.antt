@@ -9,10 +9,10 @@ use Rattle.message_net.specs.declared.event.EventKind.{EventKind}
 use Rattle.message_net.specs.Mail.{mails_of}
 use Rattle.registration_protocol.specs.Node.{NodeParts, Setting}
 use Rattle.grant_log.specs.declared.posted.Posted.{Posted}
-use Rattle.round_rules.specs.declared.end_seen.EndSeen.{EndSeen}
-use Rattle.round_rules.specs.Members.{Deed, Makes, Came, NodeIs}
-use Rattle.round_rules.specs.Steps.{Done, Step, Goes, clock_after, deed_stamp, done_of, with_stamp}
-use Rattle.round_rules.specs.Passes.{Held, held_member, end_seen, seen_at}
+use Rattle.host_workers.specs.declared.end_seen.EndSeen.{EndSeen}
+use Rattle.host_workers.specs.Members.{Deed, Makes, Came, NodeIs}
+use Rattle.host_workers.specs.Steps.{Done, Step, Goes, clock_after, deed_stamp, done_of, with_stamp}
+use Rattle.host_workers.specs.Passes.{Held, held_member, end_seen, seen_at}
 use Rattle.host_workers.specs.declared.deeds.NodeCame.{NodeCame}
 
 -- what came of a node's event, with the node that it left

@@ -10,11 +10,11 @@ use Rattle.registration_protocol.specs.OwnEvents.{end_of}
 use Rattle.machine_rules.specs.State.{State}
 use Rattle.machine_rules.specs.Runs.{after, read_off}
 use Rattle.dn_machine.specs.Ends.{EndTable, no_ends, with_end}
-use Rattle.round_rules.specs.declared.end_seen.EndSeen.{EndSeen}
-use Rattle.round_rules.specs.Steps.{Done}
-use Rattle.round_rules.specs.Acts.{note_of}
-use Rattle.round_rules.specs.Passes.{end_seen}
-use Rattle.round_rules.specs.Rounds.{core_at, done_by, end_observed}
+use Rattle.host_workers.specs.declared.end_seen.EndSeen.{EndSeen}
+use Rattle.host_workers.specs.Steps.{Done}
+use Rattle.host_workers.specs.Acts.{note_of}
+use Rattle.host_workers.specs.Passes.{end_seen}
+use Rattle.host_workers.specs.Rounds.{core_at, done_by, end_observed}
 
 -- the later of two events of one actor has the greater stamp
 abbrev pub IsStampedBefore : Stamped → Stamped → Type 0

@@ -7,8 +7,8 @@ use Rattle.bank_hall.specs.Closing.{IsClosedRow, IsToldPass}
 use Rattle.bank_hall.specs.declared.hall.HallEnd.{HallEnd}
 use Rattle.message_net.specs.Pool.{AreDistinct}
 use Rattle.grant_log.specs.declared.log.Stamped.{Stamped}
-use Rattle.round_rules.specs.Steps.{Done}
-use Rattle.round_rules.specs.Rounds.{mail_in}
+use Rattle.host_workers.specs.Steps.{Done}
+use Rattle.host_workers.specs.Rounds.{mail_in}
 use Rattle.host_workers.specs.declared.inboxes.Objects.{Objects as Left}
 use Rattle.host_workers.specs.declared.roster.Parted.{Parted}
 use Rattle.host_workers.specs.declared.working.Job.{Job}

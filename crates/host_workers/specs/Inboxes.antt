@@ -12,8 +12,8 @@ use Rattle.grant_log.specs.declared.posted.Posted.{Posted}
 use Rattle.bank_hall.specs.Banks.{BankActorParts}
 use Rattle.bank_hall.specs.Ports.{PortParts}
 use Rattle.bank_hall.specs.Keepers.{KeeperActorParts}
-use Rattle.round_rules.specs.Steps.{with_stamp}
-use Rattle.round_rules.specs.Rounds.{core_at, bank_at, mail_in}
+use Rattle.host_workers.specs.Steps.{with_stamp}
+use Rattle.host_workers.specs.Rounds.{core_at, bank_at, mail_in}
 use Rattle.host_workers.specs.declared.inboxes.Inboxes.{Inboxes}
 
 -- the inboxes of the cores and of the banks in the order of their numbers, and that of the keeper

@@ -7,13 +7,13 @@ use Rattle.machine_rules.specs.Runs.{after, read_off}
 use Rattle.grant_log.specs.Order.{IsBefore}
 use Rattle.dn_machine.specs.Kept.{Made}
 use Rattle.bank_hall.specs.Closing.{history_of}
-use Rattle.round_rules.specs.Rounds as rules
-use Rattle.round_rules.specs.Rounds.{IsJoined, IsRoundOf, end_observed, events_of}
-use Rattle.round_rules.specs.Beginnings.{AllHaveActed}
-use Rattle.round_rules.specs.Unspent.{AreUnspent}
-use Rattle.round_rules.specs.Owners.{AreOwners}
-use Rattle.round_rules.specs.Entries.{AreAnswers, AreGivenMails}
-use Rattle.round_rules.specs.NextNumbers.{AreNumbersLow}
+use Rattle.host_workers.specs.Rounds as rules
+use Rattle.host_workers.specs.Rounds.{IsJoined, IsRoundOf, end_observed, events_of}
+use Rattle.host_workers.specs.Beginnings.{AllHaveActed}
+use Rattle.host_workers.specs.Unspent.{AreUnspent}
+use Rattle.host_workers.specs.Owners.{AreOwners}
+use Rattle.host_workers.specs.Entries.{AreAnswers, AreGivenMails}
+use Rattle.host_workers.specs.NextNumbers.{AreNumbersLow}
 use Rattle.host_workers.specs.declared.opening.Moving.{Moving}
 use Rattle.host_workers.specs.declared.round.FixedParts.{FixedParts}
 use Rattle.host_workers.specs.declared.round.Round.{Round}

@@ -15,7 +15,7 @@ use Rattle.bank_hall.specs.Keepers.{KeeperActorParts}
 use Rattle.bank_hall.specs.Halls.{HallView, PassView, IsSharedHall, AreNewPasses}
 use Rattle.bank_hall.specs.declared.hall.HallParts.{HallParts}
 use Rattle.bank_hall.specs.Closing.{AreAllHallPasses}
-use Rattle.round_rules.specs.Rounds.{IsReached}
+use Rattle.host_workers.specs.Rounds.{IsReached}
 use Rattle.host_workers.specs.declared.crew.Crew.{Crew}
 use Rattle.host_workers.specs.declared.opening.Moving.{Moving}
 use Rattle.host_workers.specs.declared.opening.Opened.{Opened}

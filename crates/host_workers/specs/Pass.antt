@@ -10,8 +10,8 @@ use Rattle.registration_protocol.specs.Node.{Setting}
 use Rattle.bank_hall.specs.declared.bank.Handled.{Handled}
 use Rattle.bank_hall.specs.Note.{KeeperNote}
 use Rattle.bank_hall.specs.Halls.{PassView, HasMadeCalls, pass_number}
-use Rattle.round_rules.specs.Acts.{Act, Stepped, Kept, actor_of, is_act_of, notes_by, calls_in}
-use Rattle.round_rules.specs.Passes.{HasGone, HasPassed, IsCorePass, tries_of}
+use Rattle.host_workers.specs.Acts.{Act, Stepped, Kept, actor_of, is_act_of, notes_by, calls_in}
+use Rattle.host_workers.specs.Passes.{HasGone, HasPassed, IsCorePass, tries_of}
 use Rattle.host_workers.specs.declared.crew.BankLog.{BankLog}
 use Rattle.host_workers.specs.declared.crew.Crew.{Crew}
 use Rattle.host_workers.specs.declared.owned.Owned.{Owned}

@@ -4,8 +4,8 @@ use Rattle.grant_log.specs.declared.log.Stamped.{Stamped}
 use Rattle.message_net.specs.declared.actor.Actor.{Actor}
 use Rattle.message_net.specs.declared.actor.Actor.TheVariants.{Core, Bank}
 use Rattle.registration_protocol.specs.Node.{NodeParts}
-use Rattle.round_rules.specs.declared.end_seen.EndSeen.{EndSeen}
-use Rattle.round_rules.specs.Rounds.{owner}
+use Rattle.host_workers.specs.declared.end_seen.EndSeen.{EndSeen}
+use Rattle.host_workers.specs.Rounds.{owner}
 use Rattle.host_workers.specs.declared.crew.BankLog.{BankLog}
 use Rattle.host_workers.specs.declared.crew.Crew.{Crew}
 use Rattle.host_workers.specs.declared.owned.Owned.{Owned}

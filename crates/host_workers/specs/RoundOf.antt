@@ -15,7 +15,7 @@ use Rattle.dn_machine.specs.Ends.{no_ends}
 use Rattle.dn_machine.specs.Kept.{Made}
 use Rattle.dn_machine.specs.Parts.{IsReordered}
 use Rattle.dn_machine.specs.Run.{IsCoherentRun}
-use Rattle.round_rules.specs.Rounds.{IsReached, events_of, noted_kind, end_observed}
+use Rattle.host_workers.specs.Rounds.{IsReached, events_of, noted_kind, end_observed}
 use Rattle.host_workers.specs.declared.round.Round.{Round}
 use Rattle.host_workers.specs.declared.run.WorkersRun.{WorkersRun}
 use Rattle.host_workers.specs.Ends.{with_ends}

@@ -13,10 +13,10 @@ use Rattle.bank_hall.specs.declared.bank.Handled.{Handled}
 use Rattle.grant_log.specs.declared.posted.Posted.{Posted}
 use Rattle.bank_hall.specs.Note.{KeeperNote}
 use Rattle.bank_hall.specs.Halls.{HallView, PassView, Calls, IsHallPass, HasMadeCalls, pass_number}
-use Rattle.round_rules.specs.Acts.{Act, Took, Stepped, Kept, actor_of, core_step, act_done, events_in, note_of, posted_by, postings, calls_in}
-use Rattle.round_rules.specs.Steps.{Done}
+use Rattle.host_workers.specs.Acts.{Act, Took, Stepped, Kept, actor_of, core_step, act_done, events_in, note_of, posted_by, postings, calls_in}
+use Rattle.host_workers.specs.Steps.{Done}
 use Rattle.grant_log.specs.Stamps.{has_numbers_left}
-use Rattle.round_rules.specs.Passes.{Held, own_acts, taken_steps}
+use Rattle.host_workers.specs.Passes.{Held, own_acts, taken_steps}
 use Rattle.host_workers.specs.declared.crew.BankLog.{BankLog}
 use Rattle.host_workers.specs.declared.owned.Owned.{Owned}
 use Rattle.host_workers.specs.Crews.{held_of, owned_has_numbers}

@@ -3,7 +3,7 @@ ghost use Rattle.registration_protocol.specs.Fit.{IsContext, Fits};
 ghost use Rattle.registration_protocol.specs.OwnEvents.{own_event, may_arrive, arrives, end_of};
 ghost use Rattle.registration_protocol.specs.Node.{Setting};
 ghost use Rattle.registration_protocol.specs.Setting.{setting};
-ghost use Rattle.round_rules.specs.Members.{Handles, Makes, NodeIs, comes_of};
+ghost use Rattle.host_workers.specs.Members.{Handles, Makes, NodeIs, comes_of};
 ghost use Rattle.host_workers.specs.Deeds.{came_with};
 
 use dn_base::{Grant, WordId};
@@ -33,7 +33,7 @@ fn sends(sent: Option<Outgoing>) -> NodeCame
 }
 
 /// The node handles a message.
-#[tactic(auto, unfolding(round_rules::specs::Members::comes_of))]
+#[tactic(auto, unfolding(crate::specs::Members::comes_of))]
 pub(crate) fn receive(node: &mut Node, context: &Context<'_>, posted: &Posted) -> NodeCame
     requires context { IsContext (setting context.now) }
     requires fits { Fits (setting context.now) node.old }
@@ -65,7 +65,7 @@ fn arrive(node: &mut Node) -> NodeCame
 }
 
 /// The node makes its own event.
-#[tactic(auto, unfolding(round_rules::specs::Members::comes_of))]
+#[tactic(auto, unfolding(crate::specs::Members::comes_of))]
 pub(crate) fn act(node: &mut Node, context: &Context<'_>, event: Event) -> NodeCame
     requires context { IsContext (setting context.now) }
     requires fits { Fits (setting context.now) node.old }

@@ -1,6 +1,6 @@
 ghost use Rattle.std.specs.Prelude.{◌≡◌, ◌^◌, ◌≤◌, length, OnOk, OnErr, IfSome, option_to_list};
 ghost use Rattle.bank_hall.specs.Halls.{IsHallPass, HasMadeCalls, pass_number};
-ghost use Rattle.round_rules.specs.Acts.{posting, postings, keeper_done};
+ghost use Rattle.host_workers.specs.Acts.{posting, postings, keeper_done};
 ghost use Rattle.host_workers.specs.Deeds.{IsEarly};
 ghost use Rattle.host_workers.specs.Work.{HasBegunPosts};
 

@@ -1,13 +1,13 @@
 //! How the tasks had ended that arrived at the barrier in a round, in the order of the merged list.
 ghost use Rattle.std.specs.Prelude.{◌≡◌, ◌≢◌, ◌<◌, ℕ, filter_map, length, map, slice_get, slice_index, List, None, IfOk};
-ghost use Rattle.round_rules.specs.Steps.{Done};
-ghost use Rattle.round_rules.specs.Rounds.{end_of_done};
+ghost use Rattle.host_workers.specs.Steps.{Done};
+ghost use Rattle.host_workers.specs.Rounds.{end_of_done};
 ghost use Rattle.host_workers.specs.Ends.{AreEndsOf, left_of, end_at_stamp, left_behind};
 
+use crate::EndSeen;
 use dn_base::Memory;
 use grant_log::Stamped;
 use message_net::Actor;
-use round_rules::EndSeen;
 use rv_core::TaskEnd;
 use std::alloc::Global;
 

@@ -2,7 +2,7 @@
 ghost use Rattle.std.specs.Prelude.{◌≡◌, ◌<◌, ◌+◌, ◌++◌, ◌∷◌, [], length, map, flat_map, All, IfOk, OnOk};
 ghost use Rattle.std.specs.List.{range_with_len};
 ghost use Rattle.message_net.specs.Pool.{AreDistinct};
-ghost use Rattle.round_rules.specs.Rounds.{mail_in};
+ghost use Rattle.host_workers.specs.Rounds.{mail_in};
 ghost use Rattle.host_workers.specs.Inboxes.{inboxes_of, put_at, put_in, AreFirstInboxes, all_mails_in, all_posted, bank_parts, bank_inbox, bank_number, bank_clock, port_mails, AreObjectsOf, AreAtFirst};
 
 use bank_hall::{BankActor, HallParts, KeeperActor, Port};

@@ -5,9 +5,11 @@
 mod crew;
 mod deeds;
 mod emitting;
+mod end_seen;
 mod ends;
 mod finishing;
 mod inboxes;
+mod laws;
 mod noting;
 mod opening;
 mod owned;
@@ -21,8 +23,12 @@ mod stepping;
 mod working;
 
 pub use crew::{BankLog, Crew};
+pub use end_seen::EndSeen;
+pub use laws::{
+    a_round_is_a_run, mail_numbers_stay_low, no_object_is_spent, passes_follow_one_another,
+    steps_are_of_owners, the_one_list_tells_the_histories, whoever_has_something_to_do_acts,
+};
 pub use owned::Owned;
 pub use pass::worker_pass;
 pub use round::{Round, run_round};
-pub use round_rules::EndSeen;
 pub use run::{WorkersRun, run_keeping_machine, run_workers};

@@ -5,18 +5,18 @@ ghost use Rattle.message_net.specs.Mail.{mails_of};
 ghost use Rattle.registration_protocol.specs.Fit.{IsContext, Fits};
 ghost use Rattle.registration_protocol.specs.OwnEvents.{own_event};
 ghost use Rattle.registration_protocol.specs.Setting.{setting};
-ghost use Rattle.round_rules.specs.Members.{Handles, Makes};
-ghost use Rattle.round_rules.specs.Steps.{with_stamp};
-ghost use Rattle.round_rules.specs.Passes.{seen_at};
+ghost use Rattle.host_workers.specs.Members.{Handles, Makes};
+ghost use Rattle.host_workers.specs.Steps.{with_stamp};
+ghost use Rattle.host_workers.specs.Passes.{seen_at};
 ghost use Rattle.host_workers.specs.Crews.{held_of, owned_has_numbers, HasRoom};
 ghost use Rattle.host_workers.specs.Deeds.{HasMoved, IsNoted, IsEarly, step_of_deed};
 
+use crate::EndSeen;
 use crate::deeds::{NodeCame, act, receive};
 use dn_base::{CoreId, Memory};
 use grant_log::{Posted, Stamped, has_numbers_left, stamp_of};
 use message_net::{Actor, Event, EventKind, Outgoing};
 use registration_protocol::{Context, Node};
-use round_rules::EndSeen;
 use rv_core::TaskEnd;
 
 /// A core that a worker owns: its node, its clock, the number of its next message, the notes of its events, and the ends of the

@@ -4,12 +4,12 @@ ghost use Rattle.host_workers.specs.declared.crew.BankLog.{BankLog as OneBank};
 ghost use Rattle.host_workers.specs.declared.owned.Owned.{Owned as OneCore};
 ghost use Rattle.host_workers.specs.Rosters.{roster_of, IsFreshCore, IsFreshRoster, AreCrewsOf, AreDealt, IsTheDealt, HaveGotCores, HaveGotBanks, HaveGivenCores, HaveGivenBanks, node_of, next_of, core_log, core_ends, bank_log, IsTakenApart};
 
+use crate::EndSeen;
 use crate::crew::{BankLog, Crew};
 use crate::owned::Owned;
 use dn_base::{BankId, CoreId, Memory};
 use grant_log::Stamped;
 use registration_protocol::Node;
-use round_rules::EndSeen;
 use std::alloc::Global;
 
 /// The cores and the banks of a machine in the order of their numbers, as workers own them, and the notes of the barrier

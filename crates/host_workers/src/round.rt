@@ -3,8 +3,8 @@ ghost use Rattle.std.specs.Prelude.{◌≡◌, ◌+◌, ◌++◌, ◌≤◌, ◌
 ghost use Rattle.message_net.specs.Pool.{AreDistinct};
 ghost use Rattle.grant_log.specs.Log.{AreLogs, IsMerge};
 ghost use Rattle.grant_log.specs.declared.log.Stamped.{Stamped as OneStamped};
-ghost use Rattle.round_rules.specs.Rounds.{end_of_done, mail_in};
-ghost use Rattle.round_rules.specs.Steps.{Done};
+ghost use Rattle.host_workers.specs.Rounds.{end_of_done, mail_in};
+ghost use Rattle.host_workers.specs.Steps.{Done};
 ghost use Rattle.host_workers.specs.Inboxes.{inboxes_of, all_posted};
 ghost use Rattle.registration_protocol.specs.Setting.{setting};
 ghost use Rattle.machine_rules.specs.State.{State};
@@ -20,6 +20,9 @@ use crate::inboxes::Objects;
 use crate::opening::{Moving, Opened, open};
 use crate::roster::Parted;
 use crate::working::work_all;
+use crate::{
+    a_round_is_a_run, no_object_is_spent, steps_are_of_owners, whoever_has_something_to_do_acts,
+};
 use bank_hall::{BankActor, KeeperActor, Port};
 use dn_base::{Gate, Memory, Shape};
 use dn_machine::{Machine, MachineParts};
@@ -27,9 +30,6 @@ use effect_checker::Checked;
 use grant_log::{Stamped, merge};
 use region_table::PhasePlan;
 use registration_protocol::{Context, Node};
-use round_rules::{
-    a_round_is_a_run, no_object_is_spent, steps_are_of_owners, whoever_has_something_to_do_acts,
-};
 use rv_core::{DecodedProgram, TaskEnd};
 use std::alloc::Global;
 use std::sync::Wait;

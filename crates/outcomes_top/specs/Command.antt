@@ -2,7 +2,7 @@
 use Rattle.std.specs.Prelude.{ℕ, List, codes, Option}
 use Rattle.clap.specs.Walk.{Text}
 use Rattle.clap.specs.Simple.{App, new_app, with_rule}
-use Rattle.command_words.specs.Words.{bare, faults_in, number_in, number_rule, values_in, where_taken}
+use Rattle.program_outside.specs.Words.{bare, faults_in, number_in, number_rule, values_in, where_taken}
 
 -- the command `outcomes` with its one option
 unfoldable pub outcomes_command : App

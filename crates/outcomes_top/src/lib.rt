@@ -20,13 +20,13 @@ mod text;
 mod words;
 
 pub use answering::{Reply, answer};
-pub use command_words::WordsFault;
 pub use finding::outcomes;
 pub use laws::{
     every_complete_run_has_what_is_printed, every_order_of_grants_has_what_is_printed,
     without_locks_the_answer_of_the_flat_machine_is_printed,
 };
 pub use program::outcomes_program;
+pub use program_outside::WordsFault;
 pub use serving::{CommonOutcomes, outcomes_main};
 pub use status::OutcomesStatus;
 pub use text::{common_text, open_line};

@@ -9,9 +9,8 @@ ghost use Rattle.outcomes_top.specs.Status.{outcomes_told};
 use crate::answering::{Reply, answer};
 use crate::status::OutcomesStatus;
 use crate::words::read_words;
-use command_words::WordsFault;
 use dn_base::{Memory, Sink, Source};
-use program_outside::{Answers, Program, serve_words};
+use program_outside::{Answers, Program, WordsFault, serve_words};
 use std::alloc::Global;
 
 /// The program outcomes: from a fuel and a text to what all runs of the text have in common.

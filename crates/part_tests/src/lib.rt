@@ -11,6 +11,10 @@ mod barriers;
 #[cfg(test)]
 mod caches;
 #[cfg(test)]
+mod call_texts;
+#[cfg(test)]
+mod calls;
+#[cfg(test)]
 mod flat;
 #[cfg(test)]
 mod halls;
@@ -23,7 +27,15 @@ mod machine;
 #[cfg(test)]
 mod mails;
 #[cfg(test)]
+mod meeting;
+#[cfg(test)]
+mod met_turns;
+#[cfg(test)]
+mod passes;
+#[cfg(test)]
 mod phases;
+#[cfg(test)]
+mod rounds;
 #[cfg(test)]
 mod signatures;
 #[cfg(test)]
@@ -34,5 +46,7 @@ mod tasks;
 mod texts;
 #[cfg(test)]
 mod turns;
+#[cfg(test)]
+mod whole_calls;
 #[cfg(test)]
 mod works;

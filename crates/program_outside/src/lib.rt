@@ -8,6 +8,7 @@ mod programs;
 mod reading;
 mod serving;
 mod statuses;
+mod words;
 mod writing;
 
 pub use ends::{EndStatus, Failure, Output};
@@ -15,4 +16,8 @@ pub use program::{answer_given, exit_code, given_words, no_words, run_program};
 pub use programs::{Answers, Program};
 pub use reading::{ReadError, read_opened, read_text};
 pub use serving::{refuse_words, reply, serve, serve_words, unread};
+pub use words::{
+    OptionValue, WordsFault, bare_command, matches_by, number, number_option, text_option,
+    with_option, with_options,
+};
 pub use writing::write_text;

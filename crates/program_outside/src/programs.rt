@@ -1,8 +1,8 @@
 ghost use Rattle.std.specs.Prelude.{◌≡◌, ℕ, List, Option, Some, None, IfOk, IfErr, map, string_bytes};
-ghost use Rattle.command_words.specs.declared.words.WordsFault.TheVariants.{Usage};
+ghost use Rattle.program_outside.specs.declared.words.WordsFault.TheVariants.{Usage};
 
+use crate::WordsFault;
 use crate::ends::{EndStatus, Output};
-use command_words::WordsFault;
 use dn_base::Memory;
 use std::alloc::Global;
 

@@ -2,11 +2,11 @@ ghost use Rattle.std.specs.Prelude.{◌≡◌, map, string_bytes};
 ghost use Rattle.program_outside.specs.Outside.{devices_of, sink_of};
 ghost use Rattle.program_outside.specs.Serving.{IsMade, IsSourceServed, IsUnreadFor, IsWritten, Serves, usage};
 
+use crate::WordsFault;
 use crate::ends::{EndStatus, Failure, Output};
 use crate::programs::{Answers, Program};
 use crate::reading::{ReadError, read_text};
 use crate::writing::write_text;
-use command_words::WordsFault;
 use dn_base::{MOST_OF_DOCUMENT, Memory, Sink, Source};
 use std::alloc::Global;
 

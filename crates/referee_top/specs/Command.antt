@@ -2,7 +2,7 @@
 use Rattle.std.specs.Prelude.{Bool, true, false, List, codes, bytes_eq, Option, Some, None, option_and_then, if◌then◌else◌}
 use Rattle.clap.specs.Walk.{Row, Text, first_of}
 use Rattle.clap.specs.Simple.{App, new_app, with_rule}
-use Rattle.command_words.specs.Words.{bare, faults_in, text_rule, values_in, where_taken}
+use Rattle.program_outside.specs.Words.{bare, faults_in, text_rule, values_in, where_taken}
 use Rattle.referee_top.specs.declared.mode.RefereeMode.{RefereeMode}
 use Rattle.referee_top.specs.declared.mode.RefereeMode as mode
 use Rattle.referee_top.specs.declared.mode.RefereeOptions.{RefereeOptions}

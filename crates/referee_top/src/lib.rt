@@ -17,10 +17,10 @@ mod words;
 
 pub use answering::{Reply, answer};
 pub use batching::answer_to;
-pub use command_words::WordsFault;
 pub use laws::{a_claim_agrees_where_one_thread_does, a_claim_that_is_printed_agrees};
 pub use mode::{RefereeMode, RefereeOptions};
 pub use program::referee_program;
+pub use program_outside::WordsFault;
 pub use serving::{Referee, referee_main};
 pub use settled::judge_settled;
 pub use settled_laws::{

@@ -10,9 +10,8 @@ use crate::batching::answer_to;
 use crate::mode::RefereeOptions;
 use crate::status::RefereeStatus;
 use crate::words::read_words;
-use command_words::WordsFault;
 use dn_base::{Memory, Sink, Source};
-use program_outside::{Answers, Program, serve_words};
+use program_outside::{Answers, Program, WordsFault, serve_words};
 use std::alloc::Global;
 
 /// The program referee: from what is asked for and a run log to verdicts, or to a claim.

@@ -1,12 +1,12 @@
 ghost use Rattle.std.specs.Prelude.{◌≡◌, IfOk, IfErr, map, string_bytes, Some, None, codes, option_map};
 ghost use Rattle.clap.specs.Words.{rows_of, found_of, first_of};
-ghost use Rattle.command_words.specs.declared.words.WordsFault.TheVariants.{Usage};
+ghost use Rattle.program_outside.specs.declared.words.WordsFault.TheVariants.{Usage};
 ghost use Rattle.referee_top.specs.Command.{batch_in, batch_named, referee_options, referee_mode_in, referee_mode_named, referee_options_in, referee_options_of, takes_batch};
 
 use crate::command::referee;
 use crate::mode::{RefereeMode, RefereeOptions};
 use clap::ArgMatches;
-use command_words::{WordsFault, matches_by};
+use program_outside::{WordsFault, matches_by};
 use std::alloc::Global;
 
 /// The mode of this name.
@@ -106,7 +106,7 @@ fn options(matches: &ArgMatches<'_>) -> Option<RefereeOptions>
 ///
 /// # Errors
 /// `Usage` if the command doesn't take the words, `Memory` if there is no room to read them.
-#[tactic(auto, unfolding(crate::specs::Command::referee_options_of), using(crate::proofs::Commands::is_free, command_words::proofs::Commands::not_taken))]
+#[tactic(auto, unfolding(crate::specs::Command::referee_options_of), using(crate::proofs::Commands::is_free, program_outside::proofs::Commands::not_taken))]
 pub fn read_words(alloc: Global, words: &[String]) -> Result<RefereeOptions, WordsFault>
     ensures taken { IfOk result (λ asked. referee_options_of (map string_bytes words.now) ≡ Some asked) }
     ensures usage { IfErr result (λ fault. fault ≡ Usage → referee_options_of (map string_bytes words.now) ≡ None) }

@@ -7,6 +7,7 @@
 
 mod core_laws;
 mod laws;
+mod reached_laws;
 
 pub use core_laws::{
     a_grant_is_the_next_of_the_run, a_phase_that_stops_has_the_end_of_the_run,
@@ -22,4 +23,9 @@ pub use laws::{
     every_complete_run_has_the_end_of_the_flat_run,
     every_run_agrees_with_the_flat_run_of_its_grants, more_fuel_changes_no_ending_that_is_done,
     no_run_is_stuck_if_locks_are_taken_in_order,
+};
+pub use reached_laws::{
+    every_legal_and_whole_list_has_a_complete_run, every_run_goes_on_to_a_complete_one,
+    every_shape_has_the_same_ends, handling_messages_empties_the_network,
+    only_locks_and_the_barrier_hold_a_core_up, the_machine_does_exactly_what_the_flat_machine_does,
 };

@@ -10,9 +10,9 @@ use Rattle.message_net.specs.declared.event.Event.{Event}
 use Rattle.machine_rules.specs.State.{State}
 use Rattle.machine_rules.specs.Next.{next}
 use Rattle.machine_rules.specs.Sound.{IsMachine}
-use Rattle.message_chart.specs.declared.states.WordState.{WordState}
-use Rattle.message_chart.specs.declared.states.WordState as state
-use Rattle.message_chart.specs.declared.states.WordChange.{WordChange}
+use Rattle.run_chart.specs.declared.states.WordState.{WordState}
+use Rattle.run_chart.specs.declared.states.WordState as state
+use Rattle.run_chart.specs.declared.states.WordChange.{WordChange}
 use Rattle.run_chart.specs.declared.words.HeldWord.{HeldWord}
 use Rattle.run_chart.specs.Affected.{affected_by, is_affected, AreGathered}
 use Rattle.run_chart.specs.Drawing.{event_maker}

@@ -15,7 +15,7 @@ use Rattle.run_chart.specs.declared.drawing.Drawing.{Drawing}
 use Rattle.run_chart.specs.declared.drawing.Range.{Range}
 use Rattle.run_chart.specs.declared.charting.Frame.{Frame}
 use Rattle.run_chart.specs.declared.finishing.Columns.{Columns}
-use Rattle.message_chart.specs.declared.chart.Chart.{Chart}
+use Rattle.run_chart.specs.declared.parts.Chart.{Chart}
 use Rattle.run_chart.specs.Charts.{drawn, chart_in, chart_of, IsChartOf, IsFinishable}
 
 setting-of : (P : ProgramParts) (machine : Shape) (most : ℕ) (m : Made) → IsInitialMachine P machine most m → IsKept m.state m.made → IsSettingOf P machine most m.state.setting

@@ -5,8 +5,8 @@ use Rattle.std.proofs.lemmas.Option.{get_or_from_slice_get, slice_get_within}
 use Rattle.dn_base.specs.declared.ids.LockId.{LockId}
 use Rattle.message_net.specs.declared.message.Mail.{Mail}
 use Rattle.registration_protocol.specs.Node.{NodeParts}
-use Rattle.message_chart.specs.declared.chart.LeavingMail.{LeavingMail}
-use Rattle.message_chart.specs.declared.chart.WaitingTask.{WaitingTask}
+use Rattle.run_chart.specs.declared.parts.LeavingMail.{LeavingMail}
+use Rattle.run_chart.specs.declared.parts.WaitingTask.{WaitingTask}
 use Rattle.run_chart.specs.declared.mails.SentMail.{SentMail}
 use Rattle.run_chart.specs.Finishing.{leaving_mail, leaving_by, leaving_from, lock_wanted, waiting_by, waiting_from}
 

@@ -10,7 +10,7 @@ use Rattle.machine_rules.specs.State.{State, initial_state}
 use Rattle.machine_rules.specs.Next.{next, enabled}
 use Rattle.machine_rules.specs.Runs.{IsRun}
 use Rattle.dn_machine.specs.Kept.{Made}
-use Rattle.message_chart.specs.declared.chart.ChartRow.{ChartRow}
+use Rattle.run_chart.specs.declared.parts.ChartRow.{ChartRow}
 use Rattle.run_chart.specs.declared.charting.Frame.{Frame}
 use Rattle.run_chart.specs.declared.drawing.Drawing.{Drawing}
 use Rattle.run_chart.specs.declared.drawing.Range.{Range}

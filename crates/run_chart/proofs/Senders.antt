@@ -24,8 +24,8 @@ use Rattle.dn_machine.specs.Kept.{Made}
 use Rattle.run_timing.specs.Depends.{state_at, actor_at, Sends, IsSender}
 use Rattle.run_timing.proofs.OnRuns.{next-at, enabled-at, move-at}
 use Rattle.run_timing.proofs.Timed.{HaveSenders, IsInFlight, no-mails, actor-here}
-use Rattle.message_chart.specs.declared.chart.ChartRow.{ChartRow}
-use Rattle.message_chart.specs.declared.chart.Origin.{Origin}
+use Rattle.run_chart.specs.declared.parts.ChartRow.{ChartRow}
+use Rattle.run_chart.specs.declared.parts.Origin.{Origin}
 use Rattle.run_chart.specs.declared.drawing.Drawing.{Drawing}
 use Rattle.run_chart.specs.declared.drawing.Range.{Range}
 use Rattle.run_chart.specs.declared.mails.SentMail.{SentMail}

@@ -30,12 +30,12 @@ use Rattle.run_timing.specs.Depends.{state_at, actor_at, actor_of_event, Sends}
 use Rattle.run_timing.proofs.Moves.{has}
 use Rattle.run_timing.proofs.OnRuns.{setting-at, there-at}
 use Rattle.run_timing.proofs.Timed.{IsInFlight}
-use Rattle.message_chart.specs.declared.chart.Chart.{Chart}
-use Rattle.message_chart.specs.declared.chart.ChartRow.{ChartRow}
-use Rattle.message_chart.specs.declared.chart.LeavingMail.{LeavingMail}
-use Rattle.message_chart.specs.declared.chart.Origin.{Origin}
-use Rattle.message_chart.specs.declared.chart.WaitingTask.{WaitingTask}
-use Rattle.message_chart.specs.Places.{is_shown, shown_at, HasColumn}
+use Rattle.run_chart.specs.declared.parts.Chart.{Chart}
+use Rattle.run_chart.specs.declared.parts.ChartRow.{ChartRow}
+use Rattle.run_chart.specs.declared.parts.LeavingMail.{LeavingMail}
+use Rattle.run_chart.specs.declared.parts.Origin.{Origin}
+use Rattle.run_chart.specs.declared.parts.WaitingTask.{WaitingTask}
+use Rattle.run_chart.specs.Places.{is_shown, shown_at, HasColumn}
 use Rattle.run_chart.specs.declared.charting.Frame.{Frame}
 use Rattle.run_chart.specs.declared.drawing.Drawing.{Drawing}
 use Rattle.run_chart.specs.declared.drawing.Range.{Range}

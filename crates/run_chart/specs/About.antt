@@ -13,8 +13,8 @@ use Rattle.rv_core.specs.declared.task.End.{End}
 use Rattle.rv_core.specs.declared.task.TaskState.{TaskState}
 use Rattle.registration_protocol.specs.Node.{NodeParts, Setting, need_now}
 use Rattle.machine_rules.specs.State.{State}
-use Rattle.message_chart.specs.declared.chart.About.{About}
-use Rattle.message_chart.specs.declared.chart.About.TheVariants.{Nothing, Code, Word, Lock, Phase}
+use Rattle.run_chart.specs.declared.parts.About.{About}
+use Rattle.run_chart.specs.declared.parts.About.TheVariants.{Nothing, Code, Word, Lock, Phase}
 
 -- a message is about the word, the lock or the phase that it names
 abbrev pub about_message : Message → About

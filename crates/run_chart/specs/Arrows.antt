@@ -7,9 +7,9 @@ use Rattle.message_net.specs.Pool.{count_of}
 use Rattle.machine_rules.specs.State.{State}
 use Rattle.dn_machine.specs.Actors.{actor_in}
 use Rattle.run_timing.specs.Depends.{state_at, actor_at, Sends, IsSender}
-use Rattle.message_chart.specs.declared.chart.ChartRow.{ChartRow}
-use Rattle.message_chart.specs.declared.chart.LeavingMail.{LeavingMail}
-use Rattle.message_chart.specs.declared.chart.Origin.{Origin}
+use Rattle.run_chart.specs.declared.parts.ChartRow.{ChartRow}
+use Rattle.run_chart.specs.declared.parts.LeavingMail.{LeavingMail}
+use Rattle.run_chart.specs.declared.parts.Origin.{Origin}
 use Rattle.run_chart.specs.declared.drawing.Range.{Range}
 use Rattle.run_chart.specs.Charts.{before, inside}
 

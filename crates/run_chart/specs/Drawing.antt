@@ -8,9 +8,9 @@ use Rattle.machine_rules.specs.Next.{next, enabled, kind_in}
 use Rattle.dn_machine.specs.Actors.{actor_in}
 use Rattle.dn_machine.specs.Kept.{Made}
 use Rattle.rv_core.specs.declared.task.End.{End}
-use Rattle.message_chart.specs.declared.chart.ChartRow.{ChartRow}
-use Rattle.message_chart.specs.Picture.{end_lines}
-use Rattle.message_chart.specs.declared.states.WordChange.{WordChange}
+use Rattle.run_chart.specs.declared.parts.ChartRow.{ChartRow}
+use Rattle.run_chart.specs.Picture.{end_lines}
+use Rattle.run_chart.specs.declared.states.WordChange.{WordChange}
 use Rattle.run_chart.specs.declared.drawing.Drawing.{Drawing}
 use Rattle.run_chart.specs.declared.drawing.Look.{Look}
 use Rattle.run_chart.specs.declared.mails.SentMail.{SentMail}

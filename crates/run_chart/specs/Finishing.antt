@@ -9,10 +9,10 @@ use Rattle.message_net.specs.Kind.{kind_of}
 use Rattle.registration_protocol.specs.declared.node.NodeWait as wait
 use Rattle.registration_protocol.specs.declared.node.NodeWait.{NodeWait}
 use Rattle.registration_protocol.specs.Node.{NodeParts}
-use Rattle.message_chart.specs.declared.chart.ChartRow.{ChartRow}
-use Rattle.message_chart.specs.declared.chart.LeavingMail.{LeavingMail}
-use Rattle.message_chart.specs.declared.chart.Origin.{Origin}
-use Rattle.message_chart.specs.declared.chart.WaitingTask.{WaitingTask}
+use Rattle.run_chart.specs.declared.parts.ChartRow.{ChartRow}
+use Rattle.run_chart.specs.declared.parts.LeavingMail.{LeavingMail}
+use Rattle.run_chart.specs.declared.parts.Origin.{Origin}
+use Rattle.run_chart.specs.declared.parts.WaitingTask.{WaitingTask}
 use Rattle.run_chart.specs.declared.finishing.Columns.{Columns}
 use Rattle.run_chart.specs.declared.finishing.Columns.TheVariants.{All, Used}
 use Rattle.run_chart.specs.declared.mails.SentMail.{SentMail}

@@ -7,7 +7,7 @@ use Rattle.message_net.specs.declared.event.Event.TheVariants.{Handle}
 use Rattle.message_net.specs.declared.message.Mail.{Mail}
 use Rattle.message_net.specs.Id.{same_id}
 use Rattle.message_net.specs.Pool.{of_id}
-use Rattle.message_chart.specs.declared.chart.Origin.{Origin}
+use Rattle.run_chart.specs.declared.parts.Origin.{Origin}
 use Rattle.run_chart.specs.declared.mails.SentMail.{SentMail}
 
 -- the line that is noted for the mail with an id, otherwise the given one

@@ -8,9 +8,9 @@ use Rattle.word_cache.specs.declared.row.Entry.{Entry}
 use Rattle.registry_bank.specs.declared.bank.BankWord as home
 use Rattle.registry_bank.specs.declared.bank.BankWord.{BankWord}
 use Rattle.machine_rules.specs.State.{State, entry_at, word_in}
-use Rattle.message_chart.specs.declared.states.WordState.{WordState}
-use Rattle.message_chart.specs.declared.states.WordState.TheVariants.{Absent, Valid, Touched, Registered, Pending, Leaving, Home, At}
-use Rattle.message_chart.specs.declared.states.WordChange.{WordChange}
+use Rattle.run_chart.specs.declared.states.WordState.{WordState}
+use Rattle.run_chart.specs.declared.states.WordState.TheVariants.{Absent, Valid, Touched, Registered, Pending, Leaving, Home, At}
+use Rattle.run_chart.specs.declared.states.WordChange.{WordChange}
 use Rattle.run_chart.specs.declared.words.HeldWord.{HeldWord}
 
 -- what a core holds for a word, by the entry of its cache

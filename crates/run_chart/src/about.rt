@@ -4,10 +4,10 @@ ghost use Rattle.machine_rules.specs.Sound.{IsMachine};
 ghost use Rattle.message_net.specs.Pool.{removed};
 ghost use Rattle.run_chart.specs.About.{about_code, about_core, about_in, about_mail, about_message, about_task, core_ends_by, need_ends_by, ends_by};
 
+use crate::About;
 use crate::affected::mail_of;
 use dn_base::CoreId;
 use dn_machine::Machine;
-use message_chart::About;
 use message_net::{Event, Mail, Message};
 use region_table::FIRST_CODE_ADDRESS;
 use rv_core::{End, Need, TaskState};

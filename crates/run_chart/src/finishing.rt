@@ -7,9 +7,9 @@ ghost use Rattle.run_chart.specs.Mails.{AreNotedFor};
 
 use crate::about::about_message;
 use crate::mails::SentMail;
+use crate::{ChartRow, LeavingMail, Origin, WaitingTask};
 use dn_base::{CoreId, LockId, Memory, Sequence};
 use dn_machine::Machine;
-use message_chart::{ChartRow, LeavingMail, Origin, WaitingTask};
 use message_net::{Actor, Mail, Pool};
 use registration_protocol::NodeWait;
 use std::alloc::Global;

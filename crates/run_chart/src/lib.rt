@@ -5,11 +5,20 @@ mod about;
 mod affected;
 mod charting;
 mod drawing;
+mod elements;
 mod finishing;
 mod gathering;
+mod head;
+mod labels;
 mod laws;
 mod mails;
 mod marks;
+mod parts;
+mod picture;
+mod picture_laws;
+mod places;
+mod rows;
+mod states;
 mod words;
 
 pub use charting::chart;
@@ -19,3 +28,9 @@ pub use laws::{
     arrows_lead_from_the_senders_of_mails, each_event_of_the_range_has_one_row,
     rows_and_arrows_have_columns, rows_do_not_overlap, the_events_of_the_chain_are_marked,
 };
+pub use parts::{About, Chart, ChartRow, LeavingMail, Origin, WaitingTask};
+pub use picture::chart_text;
+pub use picture_laws::{
+    different_actors_have_different_columns, rows_on_other_lines_are_drawn_apart,
+};
+pub use states::{WordChange, WordState};

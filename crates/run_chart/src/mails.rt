@@ -2,8 +2,8 @@ ghost use Rattle.std.specs.Prelude.{◌≡◌, ◌<◌, ◌≤◌, ◌++◌, ℕ
 ghost use Rattle.message_net.specs.Pool.{AreDistinct};
 ghost use Rattle.run_chart.specs.Mails.{AreNotedFor, mails_left, line_there, noted_line, origin_of, place_handled, sent_on, unknown_mails};
 
+use crate::Origin;
 use dn_base::{Memory, Sequence};
-use message_chart::Origin;
 use message_net::{Event, MailId, Pool};
 use std::alloc::Global;
 

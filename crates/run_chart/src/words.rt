@@ -3,9 +3,9 @@ ghost use Rattle.machine_rules.specs.State.{entry_at, word_in};
 ghost use Rattle.machine_rules.specs.Sound.{IsMachine};
 ghost use Rattle.run_chart.specs.Words.{changes_among, held_words, of_entry, of_home, same_state, word_state};
 
+use crate::{WordChange, WordState};
 use dn_base::{BankId, CoreId, Memory, Sequence, WordId};
 use dn_machine::Machine;
-use message_chart::{WordChange, WordState};
 use message_net::Actor;
 use registry_bank::BankWord;
 use std::alloc::Global;

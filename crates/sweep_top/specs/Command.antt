@@ -4,8 +4,8 @@ use Rattle.std.specs.Int.{IsInRange}
 use Rattle.std.specs.List.{position_or_len, before_first, after_first}
 use Rattle.clap.specs.Walk.{Row, Text, first_of}
 use Rattle.clap.specs.Simple.{App, new_app, with_rule}
-use Rattle.command_words.specs.Numbers.{number_in_text}
-use Rattle.command_words.specs.Words.{bare, faults_in, number_in, number_rule, text_rule, values_in, where_taken}
+use Rattle.program_outside.specs.Numbers.{number_in_text}
+use Rattle.program_outside.specs.Words.{bare, faults_in, number_in, number_rule, text_rule, values_in, where_taken}
 use Rattle.sweep_top.specs.declared.options.Form.{Form}
 use Rattle.sweep_top.specs.declared.options.Form as form
 use Rattle.sweep_top.specs.declared.options.Seeds.{Seeds}

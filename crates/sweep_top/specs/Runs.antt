@@ -1,8 +1,8 @@
 -- The runs of the seeds: for each seed the run that denovo makes of it in the mode run.
 use Rattle.std.specs.Prelude.{◌≡◌, ℕ, ◌+◌, List, [], ◌∷◌, length}
 use Rattle.region_table.specs.Program.{ProgramParts}
-use Rattle.command_words.specs.declared.options.Mode as mode
-use Rattle.command_words.specs.declared.options.Options.{Options}
+use Rattle.dn_top.specs.declared.options.Mode as mode
+use Rattle.dn_top.specs.declared.options.Options.{Options}
 use Rattle.dn_machine.specs.declared.record.RunRecord.{RunRecord}
 use Rattle.dn_top.specs.Runs.{IsRunFor}
 use Rattle.sweep_top.specs.declared.options.SweepOptions.{SweepOptions}

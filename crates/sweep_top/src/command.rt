@@ -3,7 +3,7 @@ ghost use Rattle.clap.specs.Words.{app_of};
 ghost use Rattle.sweep_top.specs.Command.{sweep_command};
 
 use clap::Command;
-use command_words::{OptionValue, bare_command, with_options};
+use program_outside::{OptionValue, bare_command, with_options};
 use std::alloc::{AllocError, Global};
 
 /// The options of the command, with their defaults.

@@ -9,9 +9,8 @@ use crate::answering::{Reply, answer};
 use crate::options::SweepOptions;
 use crate::status::SweepStatus;
 use crate::words::read_words;
-use command_words::WordsFault;
 use dn_base::{Memory, Sink, Source};
-use program_outside::{Answers, Program, serve_words};
+use program_outside::{Answers, Program, WordsFault, serve_words};
 use std::alloc::Global;
 
 /// The program sweep: from seeds and a text to the runs of the text by these seeds.

@@ -1,13 +1,13 @@
 ghost use Rattle.std.specs.Prelude.{◌≡◌, IfOk, IfErr, map, string_bytes, Some, None, option_map};
 ghost use Rattle.clap.specs.Words.{rows_of, found_of, first_of};
-ghost use Rattle.command_words.specs.Numbers.{number_in_text};
-ghost use Rattle.command_words.specs.declared.words.WordsFault.TheVariants.{Usage};
+ghost use Rattle.program_outside.specs.Numbers.{number_in_text};
+ghost use Rattle.program_outside.specs.declared.words.WordsFault.TheVariants.{Usage};
 ghost use Rattle.sweep_top.specs.Command.{around_dot, sweep_form_in, sweep_form_named, seeds_behind, seeds_between, seeds_in, seeds_named, seeds_of, sweep_from, sweep_of, AreSeeds, IsSweepInRange};
 
 use crate::command::sweep_command;
 use crate::options::{Form, MOST_SEEDS, Seeds, SweepOptions};
 use clap::ArgMatches;
-use command_words::{WordsFault, matches_by, number};
+use program_outside::{WordsFault, matches_by, number};
 use std::alloc::Global;
 
 /// The number of 32 bits that a text writes in decimal digits.
@@ -125,7 +125,7 @@ fn sweep(matches: &ArgMatches<'_>) -> Option<SweepOptions>
 ///
 /// # Errors
 /// `Usage` if the command doesn't take the words, `Memory` if there is no room to read them.
-#[tactic(auto, unfolding(crate::specs::Command::sweep_of), using(crate::proofs::Commands::is_free, command_words::proofs::Commands::not_taken))]
+#[tactic(auto, unfolding(crate::specs::Command::sweep_of), using(crate::proofs::Commands::is_free, program_outside::proofs::Commands::not_taken))]
 pub fn read_words(alloc: Global, words: &[String]) -> Result<SweepOptions, WordsFault>
     ensures taken { IfOk result (λ options. sweep_of (map string_bytes words.now) ≡ Some options) }
     ensures limits { IfOk result IsSweepInRange }

@@ -8,8 +8,8 @@ use Rattle.run_timing.specs.declared.ticks.Ticks.{Ticks}
 use Rattle.run_timing.specs.declared.timing.Link.{Link}
 use Rattle.run_timing.specs.declared.timing.Timing.{Timing}
 use Rattle.run_timing.specs.Longest.{numbers_in}
-use Rattle.message_chart.specs.declared.chart.Chart.{Chart}
-use Rattle.message_chart.specs.Picture.{svg_of}
+use Rattle.run_chart.specs.declared.parts.Chart.{Chart}
+use Rattle.run_chart.specs.Picture.{svg_of}
 use Rattle.run_chart.specs.declared.drawing.Range.{Range}
 use Rattle.run_chart.specs.Charts.{IsChartOf}
 use Rattle.run_report.specs.Texts.{HasProgram}

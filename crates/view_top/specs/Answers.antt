@@ -22,9 +22,9 @@ use Rattle.run_account.specs.Account.{no_account, account_of_run}
 use Rattle.run_account.specs.declared.form.Form.{Form}
 use Rattle.run_account.specs.declared.form.Form as form
 use Rattle.run_account.specs.Forms.{account_text, lists_text}
-use Rattle.sharer_lists.specs.Runs.{nothing_listed, count_of_run}
-use Rattle.message_chart.specs.declared.chart.Chart.{Chart}
-use Rattle.message_chart.specs.Picture.{svg_of}
+use Rattle.run_account.specs.Runs.{nothing_listed, count_of_run}
+use Rattle.run_chart.specs.declared.parts.Chart.{Chart}
+use Rattle.run_chart.specs.Picture.{svg_of}
 use Rattle.run_chart.specs.declared.drawing.Range.{Range}
 use Rattle.run_chart.specs.Charts.{IsChartOf}
 use Rattle.state_text.specs.declared.answer.StateAnswer.{StateAnswer}

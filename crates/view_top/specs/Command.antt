@@ -11,7 +11,7 @@ use Rattle.run_chart.specs.declared.finishing.Columns.{Columns}
 use Rattle.run_chart.specs.declared.finishing.Columns as columns
 use Rattle.state_text.specs.declared.base.Base.{Base}
 use Rattle.state_text.specs.declared.base.Base as base
-use Rattle.command_words.specs.Words.{bare, faults_in, number_in, number_rule, open_number_rule, text_rule, values_in, where_taken}
+use Rattle.program_outside.specs.Words.{bare, faults_in, number_in, number_rule, open_number_rule, text_rule, values_in, where_taken}
 use Rattle.view_top.specs.declared.options.View.{View}
 use Rattle.view_top.specs.declared.options.View as view
 use Rattle.view_top.specs.declared.options.ChartOptions.{ChartOptions}

@@ -3,7 +3,7 @@ ghost use Rattle.clap.specs.Words.{app_of};
 ghost use Rattle.view_top.specs.Command.{view_command};
 
 use clap::Command;
-use command_words::{OptionValue, bare_command, with_options};
+use program_outside::{OptionValue, bare_command, with_options};
 use std::alloc::{AllocError, Global};
 
 /// The options of the command, with their defaults. How many rows there are by default depends on the mode.

@@ -17,10 +17,9 @@ use dn_base::{MOST_EVENTS, Memory};
 use dn_machine::{Machine, a_machine_is_kept};
 use effect_checker::Checked;
 use message_net::Event;
-use run_account::{Form, Grouping, push_lists};
+use run_account::{Form, Grouping, Listing, listing_of, push_lists};
 use run_replay::TraceShape;
 use run_report::Stop;
-use sharer_lists::{Listing, listing_of};
 use std::alloc::Global;
 
 /// A run's events beside lists, in these groups.

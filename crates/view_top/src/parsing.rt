@@ -1,7 +1,7 @@
 ghost use Rattle.std.specs.Prelude.{◌≡◌, ◌≤◌, IfOk, IfErr, map, string_bytes, Some, None, option_map};
 ghost use Rattle.std.specs.Int.{IsInRange};
 ghost use Rattle.clap.specs.Words.{rows_of, found_of, first_of};
-ghost use Rattle.command_words.specs.declared.words.WordsFault.TheVariants.{Usage};
+ghost use Rattle.program_outside.specs.declared.words.WordsFault.TheVariants.{Usage};
 ghost use Rattle.view_top.specs.Command.{account_options_from, answer_options_from, base_in, base_named, chart_options_from, columns_in, columns_named, form_in, form_named, grouping_in, grouping_named, data_options_from, events_asked, view_by_mode, page_options_from, rows_in, state_options_from, view_from, view_named, view_of, view_of_rows, AreEventsInRange, IsChartInRange, IsDataInRange, IsPageInRange, IsViewInRange};
 
 use crate::command::view_command;
@@ -9,8 +9,8 @@ use crate::options::{
     AccountOptions, AnswerOptions, ChartOptions, PageOptions, StateOptions, View,
 };
 use clap::ArgMatches;
-use command_words::{WordsFault, matches_by, number};
 use page_data::MOST_ROWS;
+use program_outside::{WordsFault, matches_by, number};
 use run_account::{Form, Grouping};
 use run_chart::Columns;
 use state_text::Base;
@@ -287,7 +287,7 @@ fn asked_view(matches: &ArgMatches<'_>) -> Option<View>
 ///
 /// # Errors
 /// `Usage` if the command doesn't take the words, `Memory` if there is no room to read them.
-#[tactic(auto, unfolding(crate::specs::Command::view_of), using(crate::proofs::Commands::is_free, command_words::proofs::Commands::not_taken))]
+#[tactic(auto, unfolding(crate::specs::Command::view_of), using(crate::proofs::Commands::is_free, program_outside::proofs::Commands::not_taken))]
 pub fn read_words(alloc: Global, words: &[String]) -> Result<View, WordsFault>
     ensures taken { IfOk result (λ view. view_of (map string_bytes words.now) ≡ Some view) }
     ensures limits { IfOk result IsViewInRange }

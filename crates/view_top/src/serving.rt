@@ -8,9 +8,8 @@ ghost use Rattle.view_top.specs.Command.{view_of, IsViewInRange};
 use crate::answering::{Output, answer};
 use crate::status::ViewStatus;
 use crate::{View, read_words};
-use command_words::WordsFault;
 use dn_base::{Memory, Sink, Source};
-use program_outside::{Answers, Program, serve_words};
+use program_outside::{Answers, Program, WordsFault, serve_words};
 use std::alloc::Global;
 
 /// The program view: from a view and the trace to what is to be seen of the run.

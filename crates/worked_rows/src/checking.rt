@@ -1,8 +1,7 @@
 ghost use Rattle.std.specs.Thread.{IsSync};
 
 use crate::running::run;
-use case_files::{BadForm, Case, CaseRunner, Report, Stop, Trouble};
-use case_machine::{Got, judge, play};
+use case_files::{BadForm, Case, CaseRunner, Got, Report, Stop, Trouble, judge, play};
 use dn_base::Memory;
 use std::alloc::Global;
 use std::sync::Wait;

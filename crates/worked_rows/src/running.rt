@@ -1,5 +1,4 @@
-use case_files::{Case, Written};
-use case_machine::Got;
+use case_files::{Case, Got, Written};
 use dn_base::{Memory, OpenGate, TextSource, VecSink};
 use dn_top::{Answer, denovo_main};
 use std::alloc::Global;

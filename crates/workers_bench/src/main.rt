@@ -1,14 +1,26 @@
-//! How long the run of a text by several workers takes, and how many rounds and passes such a run has.
+//! Benches of workers: how long the run of a text by several workers takes and how many rounds and passes such a run has; and how long
+//! calls of one object take that several threads share.
 //!
 //! The first word of the command is the number of workers, from 1 to 16, and the text comes from standard input. The program
 //! prints how many events the run has; with the word `time` also the microseconds from the machine to the run's record, and with
-//! the word `rounds` in their place the rounds, and the passes of each worker.
+//! the word `rounds` in their place the rounds, and the passes of each worker. With neither it also makes a fixed number of calls
+//! through a turn and under std's `Mutex`, by 1, 2, 4, 8 and 17 threads, and prints how many there were.
+//!
+//! With the first word `turns` no text is read. With a second word, MILLIS, each run of calls lasts this many milliseconds, and the
+//! program prints calls per second for 1, 2, 4, 8 and 17 threads, the medians of several runs taken in turns, and how many times as
+//! long as under a `Mutex` a call takes through a turn; then, of one more run each way, in which each thread looks at the clock at
+//! each call, the fewest and the most calls that one thread made, and the longest time from one call of a thread to its next. With
+//! MILLIS THREADS turn or MILLIS THREADS mutex, it makes one run of one of the two, so that its processor time can be seen.
 #![tactic(auto)]
 
 ghost use Rattle.std.specs.Prelude.{◌≡◌, ◌≤◌};
 
+mod limit;
 mod machine;
 mod rounds;
+mod runs;
+mod total;
+mod turns;
 
 use crate::machine::machine_of;
 use crate::rounds::{Tally, count_rounds};
@@ -160,17 +172,43 @@ fn measure_of(words: &[String]) -> Measure {
     }
 }
 
+/// Runs a machine by workers, and prints what is asked for.
+fn bench_run<R: Threads + Wait + Clock + Print + Sync>(
+    rt: &R,
+    alloc: Global,
+    machine: Machine,
+    words: &[String],
+) -> io::Result<()>
+    requires made { machine.made ≡ 0 }
+{
+    let workers = workers_of(words);
+    match measure_of(words) {
+        Measure::Rounds => count(rt, alloc, machine, workers),
+        Measure::Time => time(rt, alloc, machine, workers),
+        Measure::Nothing => {
+            run_only(rt, alloc, machine, workers)?;
+            turns::count(rt, alloc)
+        }
+    }
+}
+
+/// Whether the words ask for calls through a turn in place of a run by workers.
+fn asks_for_turns(words: &[String]) -> bool {
+    match words.first() {
+        Some(word) => word.as_str() == "turns",
+        None => false,
+    }
+}
+
 fn main(rt: HostRuntime) -> io::Result<()> {
     let alloc = rt.alloc();
     let words = words(&rt)?;
-    let workers = workers_of(words.as_slice());
+    if asks_for_turns(words.as_slice()) {
+        return turns::bench(&rt, alloc, words.as_slice());
+    }
     let text = io::read_to_string(alloc, rt.reader())?;
-    let Some(machine) = machine_of(alloc, text.as_bytes()) else {
-        return println!(rt; "the text has no machine, or there was no memory");
-    };
-    match measure_of(words.as_slice()) {
-        Measure::Rounds => count(&rt, alloc, machine, workers),
-        Measure::Time => time(&rt, alloc, machine, workers),
-        Measure::Nothing => run_only(&rt, alloc, machine, workers),
+    match machine_of(alloc, text.as_bytes()) {
+        Some(machine) => bench_run(&rt, alloc, machine, words.as_slice()),
+        None => println!(rt; "the text has no machine, or there was no memory"),
     }
 }

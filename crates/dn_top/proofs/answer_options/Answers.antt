@@ -1,6 +1,6 @@
 -- with one worker the options are those with one worker
 use Rattle.std.proofs.Common.{◌≡◌, refl, subst}
-use Rattle.command_words.specs.declared.options.Options.{Options}
+use Rattle.dn_top.specs.declared.options.Options.{Options}
 use Rattle.program_outside.specs.Outside.{devices_of}
 use Rattle.dn_top.specs.Runs.{with_one_worker}
 use Rattle.dn_top.specs.Serving.{IsDoneBy}

@@ -1,6 +1,6 @@
 use Rattle.std.proofs.Common.{map, string_bytes, ap}
 use Rattle.std.specs.Option.{option_map}
-use Rattle.command_words.specs.Command.{options_of}
+use Rattle.dn_top.specs.Command.{options_of}
 use Rattle.program_outside.specs.Outside.{devices_of}
 use Rattle.dn_top.specs.Runs.{with_one_worker}
 use Rattle.dn_top.proofs.Clauses.{serves-options}

@@ -1,5 +1,5 @@
 use Rattle.std.proofs.Common.{map, string_bytes}
-use Rattle.command_words.specs.Command.{options_of}
+use Rattle.dn_top.specs.Command.{options_of}
 use Rattle.program_outside.specs.Outside.{devices_of}
 use Rattle.dn_top.proofs.Clauses.{serves-options}
 use Rattle.dn_top.proofs.denovo_main.Goals as goal

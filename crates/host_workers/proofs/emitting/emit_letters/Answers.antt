@@ -1,7 +1,7 @@
 use Rattle.std.proofs.Common.{IfSome, sym, refl, ◌∙◌, subst, arith}
 use Rattle.std.specs.Option.{option_to_list}
 use Rattle.bank_hall.specs.Halls.{HasMadeCalls, pass_number}
-use Rattle.round_rules.specs.Acts.{postings, keeper_done}
+use Rattle.host_workers.specs.Acts.{postings, keeper_done}
 use Rattle.host_workers.specs.Deeds.{IsEarly}
 use Rattle.host_workers.specs.Work.{HasBegunPosts}
 use Rattle.host_workers.proofs.Calls.{at-exit, made-none, letters-more, letters-begun}

@@ -1,7 +1,7 @@
 use Rattle.std.specs.List.{range_with_len, filter_map}
 use Rattle.bank_hall.specs.Note.{letter_to}
 use Rattle.bank_hall.specs.Halls.{HasMadeCalls, pass_number}
-use Rattle.round_rules.specs.Acts.{postings}
+use Rattle.host_workers.specs.Acts.{postings}
 use Rattle.host_workers.specs.Work.{KeepsNumber}
 use Rattle.host_workers.proofs.emitting.emit_letters.Given as goal
 

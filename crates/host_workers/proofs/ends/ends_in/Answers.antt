@@ -1,6 +1,6 @@
 use Rattle.std.proofs.Common.{rules, ◌≡◌, ◌++◌, ℕ, List, length, map, sym, ap, ◌∙◌, subst}
 use Rattle.std.specs.Prelude.{option_to_list}
-use Rattle.round_rules.specs.declared.end_seen.EndSeen.{EndSeen}
+use Rattle.host_workers.specs.declared.end_seen.EndSeen.{EndSeen}
 use Rattle.host_workers.specs.Ends.{left_of}
 use Rattle.host_workers.proofs.EndsLeft.{IsOnTheWay, begins, entry-more, ended, zeros, written-back}
 use Rattle.host_workers.proofs.ends.ends_in.Goals.{in-Some+in_ok-push, in_default}

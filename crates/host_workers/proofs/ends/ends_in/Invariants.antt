@@ -1,5 +1,5 @@
 use Rattle.std.proofs.Common.{◌≡◌, List, length, map}
-use Rattle.round_rules.specs.Steps.{Done}
+use Rattle.host_workers.specs.Steps.{Done}
 use Rattle.host_workers.specs.Ends.{AreEndsOf, left_of}
 use Rattle.host_workers.proofs.EndsLeft.{IsOnTheWay}
 use Rattle.host_workers.proofs.ends.ends_in.Given as goal

@@ -3,7 +3,7 @@ use Rattle.std.specs.List.{All}
 use Rattle.std.proofs.lemmas.Result.{IfOk-weaker}
 use Rattle.bank_hall.specs.Halls.{bank_state, bank_answer, bank_next, port_inbox, port_answer, port_next, keeper_state, keeper_answer, keeper_next}
 use Rattle.bank_hall.specs.Closing.{IsClosedRow, IsToldPass}
-use Rattle.round_rules.proofs.Mapped.{long-map}
+use Rattle.host_workers.proofs.Mapped.{long-map}
 use Rattle.host_workers.specs.Rosters.{AreCrewsOf}
 use Rattle.host_workers.specs.Opening.{crew_of, pass_of}
 use Rattle.host_workers.specs.Finishing.{IsFinished}

@@ -1,5 +1,5 @@
 use Rattle.std.proofs.Common.{◌≡◌, ◌++◌, map, drop}
-use Rattle.round_rules.specs.Rounds.{mail_in}
+use Rattle.host_workers.specs.Rounds.{mail_in}
 use Rattle.host_workers.proofs.inboxes.post_all.Given as goal
 
 abbrev pub invariant-loop-posted : goal.invariant-loop-posted

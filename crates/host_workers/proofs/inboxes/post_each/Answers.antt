@@ -1,6 +1,6 @@
 use Rattle.std.proofs.Common.{◌++◌, map, sym, ap, ◌∙◌, subst, arith}
 use Rattle.message_net.specs.Pool.{AreDistinct}
-use Rattle.round_rules.specs.Rounds.{mail_in}
+use Rattle.host_workers.specs.Rounds.{mail_in}
 use Rattle.host_workers.proofs.Posting.{distinct-at}
 use Rattle.host_workers.proofs.inboxes.post_each.Goals as goal
 

@@ -1,7 +1,7 @@
 use Rattle.std.proofs.Common.{length, sym, ap, ◌∙◌}
 use Rattle.std.specs.List.{range_with_len}
 use Rattle.std.proofs.lemmas.List.FromFn.{length-range_with_len}
-use Rattle.round_rules.proofs.Mapped.{long-map}
+use Rattle.host_workers.proofs.Mapped.{long-map}
 use Rattle.host_workers.specs.Inboxes.{inboxes_of}
 use Rattle.host_workers.specs.Opening.{AreFirstObjects}
 use Rattle.host_workers.proofs.BothOk.{both-ok}

@@ -2,8 +2,8 @@ use Rattle.std.proofs.Common.{◌≡◌, ◌+◌, ◌<◌, length, sym, ap, subs
 use Rattle.grant_log.specs.Log.{IsMerge}
 use Rattle.dn_machine.specs.Kept.{IsLeftByRun}
 use Rattle.machine_rules.specs.State.{State}
-use Rattle.round_rules.specs.Rounds.{mail_in}
-use Rattle.round_rules.proofs.Mapped.{long-map}
+use Rattle.host_workers.specs.Rounds.{mail_in}
+use Rattle.host_workers.proofs.Mapped.{long-map}
 use Rattle.host_workers.specs.Ends.{AreEndsOf}
 use Rattle.host_workers.specs.Finishing.{left_in}
 use Rattle.host_workers.specs.Inboxes.{inboxes_of, all_posted}

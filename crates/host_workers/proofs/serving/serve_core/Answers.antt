@@ -3,7 +3,7 @@ use Rattle.registration_protocol.specs.Setting.{setting}
 use Rattle.dn_base.specs.declared.ids.CoreId.{CoreId}
 use Rattle.registration_protocol.specs.Fit.{Fits}
 use Rattle.grant_log.specs.Stamps.{has_numbers_left}
-use Rattle.round_rules.specs.Passes.{Held}
+use Rattle.host_workers.specs.Passes.{Held}
 use Rattle.host_workers.specs.Crews.{held_of}
 use Rattle.host_workers.specs.Work.{HasTaken, HasMadeOwn}
 use Rattle.host_workers.proofs.Turning.{serves, stays, moves-none, from-held, turns-partly}

@@ -3,7 +3,7 @@ use Rattle.std.specs.Result.{IfOk}
 use Rattle.std.proofs.lemmas.Result.{IfOk-weaker, IfOk-at_ok}
 use Rattle.std.proofs.lemmas.Option.{slice_get_within, get_or_from_slice_get}
 use Rattle.registration_protocol.specs.Setting.{setting}
-use Rattle.round_rules.proofs.Mapped.{long-map}
+use Rattle.host_workers.proofs.Mapped.{long-map}
 use Rattle.dn_base.specs.declared.failure.Memory.{Memory}
 use Rattle.host_workers.specs.declared.working.Job.{Job}
 use Rattle.host_workers.specs.Finishing.{HasDoneJob, HaveDoneJobs}

@@ -1,6 +1,6 @@
 use Rattle.std.proofs.Common.{◌≡◌, ℕ, ◌∷◌, [], List, Some, length, ap, subst, ◌∙◌, arith, length-append}
 use Rattle.std.specs.Prelude.{slice_get}
-use Rattle.message_chart.specs.declared.chart.LeavingMail.{LeavingMail}
+use Rattle.run_chart.specs.declared.parts.LeavingMail.{LeavingMail}
 use Rattle.run_chart.specs.Finishing.{leaving_from}
 use Rattle.run_chart.proofs.Behind.{leaving-skipped, leaving-added}
 use Rattle.run_chart.proofs.finishing.leaving_mails.Goals.{in-Some+in_ok-push, in_default}

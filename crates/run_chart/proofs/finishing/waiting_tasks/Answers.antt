@@ -1,6 +1,6 @@
 use Rattle.std.proofs.Common.{◌≡◌, ℕ, ◌∷◌, [], List, length, ap, sym, ◌∙◌, arith, length-append}
 use Rattle.registration_protocol.specs.declared.node.NodeWait.{NodeWait}
-use Rattle.message_chart.specs.declared.chart.WaitingTask.{WaitingTask}
+use Rattle.run_chart.specs.declared.parts.WaitingTask.{WaitingTask}
 use Rattle.run_chart.specs.Finishing.{lock_wanted, waiting_from}
 use Rattle.run_chart.proofs.Behind.{waiting-skipped, waiting-added}
 use Rattle.run_chart.proofs.finishing.waiting_tasks.Goals.{in-Some+in_ok-push, in_default}

@@ -1,7 +1,7 @@
 use Rattle.std.proofs.Common.{List, ℕ, Some, None, Result}
 use Rattle.std.specs.Str.Parse.{ParsesUnsigned, ExplainsUnsignedError, HasUnsignedDigitsIfOk}
 use Rattle.std.specs.declared.num.ParseIntError.{ParseIntError}
-use Rattle.command_words.proofs.Numerals.{reads_number}
+use Rattle.program_outside.proofs.Numerals.{reads_number}
 use Rattle.sweep_top.proofs.words.number_in.Goals as goal
 
 abbrev Gives : List ℕ → Result ℕ ParseIntError → Type 0

@@ -2,7 +2,7 @@ use Rattle.std.proofs.Common.{List}
 use Rattle.dn_base.specs.declared.ids.Shape.{Shape}
 use Rattle.region_table.specs.Program.{ProgramParts}
 use Rattle.message_net.specs.declared.event.Event.{Event}
-use Rattle.message_chart.specs.declared.chart.Chart.{Chart}
+use Rattle.run_chart.specs.declared.parts.Chart.{Chart}
 use Rattle.run_chart.specs.Charts.{IsChartOf}
 use Rattle.view_top.proofs.Kept.{fit, made-of-kept}
 use Rattle.view_top.proofs.charts.chart_of.Goals as goal

@@ -2,7 +2,7 @@ use Rattle.std.proofs.Common.{List, refl}
 use Rattle.dn_base.specs.declared.ids.Shape.{Shape}
 use Rattle.region_table.specs.Program.{ProgramParts}
 use Rattle.message_net.specs.declared.event.Event.{Event}
-use Rattle.sharer_lists.specs.Runs.{Listed}
+use Rattle.run_account.specs.Runs.{Listed}
 use Rattle.view_top.specs.Answers.{IsListingOf}
 use Rattle.checked_runs.specs.Documents.{shape_told}
 use Rattle.view_top.proofs.Kept.{fit, run-of-kept, made-of-kept}

@@ -1,6 +1,6 @@
 use Rattle.std.proofs.Common.{◌++◌, map, sym, ap, ◌∙◌, subst}
 use Rattle.message_net.specs.Pool.{AreDistinct}
-use Rattle.round_rules.specs.Rounds.{mail_in}
+use Rattle.host_workers.specs.Rounds.{mail_in}
 use Rattle.host_workers.specs.Inboxes.{inboxes_of, all_mails_in}
 use Rattle.host_workers.proofs.Posting.{distinct-front, all-parts}
 use Rattle.host_workers.proofs.inboxes.Inboxes.pool.Goals as goal

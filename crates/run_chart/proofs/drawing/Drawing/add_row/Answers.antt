@@ -5,7 +5,7 @@ use Rattle.run_chart.specs.declared.mails.SentMail.{SentMail}
 use Rattle.run_chart.specs.Drawing.{IsLookBefore}
 use Rattle.run_chart.specs.Mails.{mails_left}
 use Rattle.run_chart.proofs.Flown.{fewer-left}
-use Rattle.run_chart.proofs.Rows.{next-row, few-among, few-lines}
+use Rattle.run_chart.proofs.OneRow.{next-row, few-among, few-lines}
 use Rattle.run_chart.proofs.drawing.Drawing.add_row.Goals as goal
 
 pub note-requires-clause-fewer : goal.note-requires-clause-fewer

@@ -4,7 +4,7 @@ use Rattle.message_net.specs.declared.event.Event.{Event}
 use Rattle.message_net.specs.declared.event.Event.TheVariants.{Instr}
 use Rattle.run_chart.specs.Drawing.{IsRowed, IsNextRow, with_rows}
 use Rattle.run_chart.specs.Marks.{is_on_chain}
-use Rattle.run_chart.proofs.Rows.{rows-step}
+use Rattle.run_chart.proofs.OneRow.{rows-step}
 use Rattle.run_chart.proofs.drawing.Drawing.add_rows.Goals as goal
 
 pub loop-event-preserved : goal.loop-event-preserved

@@ -1,0 +1,59 @@
+-- What the calls of a machine promise.
+use Rattle.std.specs.Prelude.{◌≡◌, ◌⊎◌, ℕ, ℤ, pos, ◌+◌, ◌≤◌, List, true, false, Some, None}
+use Rattle.std.specs.Int.{IsInRange}
+use Rattle.dn_base.specs.declared.ids.Shape.{Shape}
+use Rattle.region_table.specs.Program.{ProgramParts, cores_of}
+use Rattle.message_net.specs.declared.event.Event.{Event}
+use Rattle.machine_rules.specs.Next.{next, enabled}
+use Rattle.dn_machine.specs.Kept.{Made, IsInitialMachine}
+use Rattle.run_report.specs.Texts.{HasChecked, IsUnfit}
+use Rattle.denovo_c.specs.declared.codes.EventCode.{EventCode}
+use Rattle.denovo_c.specs.declared.steps.Sizes.{Sizes}
+use Rattle.denovo_c.specs.declared.steps.Unopened.{Unopened}
+use Rattle.denovo_c.specs.declared.steps.Unopened as unopened
+use Rattle.denovo_c.specs.declared.steps.StepResult.{StepResult}
+use Rattle.denovo_c.specs.declared.steps.StepResult as stepped
+use Rattle.denovo_c.specs.Codes.{coded_event}
+
+pub record FitsSizes (sizes : Sizes) : Type 0 where
+  pub banks : IsInRange 1 16 sizes.banks
+  pub sets : IsInRange 1 256 sizes.sets
+  pub ways : IsInRange 1 16 sizes.ways
+  pub fuel : IsInRange 1 32768 sizes.fuel
+
+abbrev pub sized_shape : ProgramParts → Sizes → Shape
+sized_shape program sizes = record { cores = cores_of program; banks = sizes.banks; sets = sizes.sets; ways = sizes.ways }
+
+-- the text has a checked program, and this is its machine when a run begins
+abbrev pub IsOpened : List ℕ → Sizes → Made → Type 0
+IsOpened text sizes m = HasChecked text (λ P. IsInitialMachine P (sized_shape P sizes) sizes.fuel m)
+
+-- why there is no machine: a size is out of its range, or the text is refused. Out of memory says nothing of the text
+abbrev pub IsUnopened : List ℕ → Sizes → Unopened → Type 0
+IsUnopened text sizes unopened.TheVariants.Usage = FitsSizes sizes → ⊥
+IsUnopened text sizes unopened.TheVariants.Refused = (line : List ℕ) × IsUnfit text line
+IsUnopened text sizes unopened.TheVariants.Memory = Unit {0}
+
+abbrev pub why_code : Unopened → ℤ
+why_code unopened.TheVariants.Usage = pos 1
+why_code unopened.TheVariants.Refused = pos 2
+why_code unopened.TheVariants.Memory = pos 8
+
+abbrev pub result_code : StepResult → ℤ
+result_code stepped.TheVariants.Made = pos 0
+result_code stepped.TheVariants.Usage = pos 1
+result_code stepped.TheVariants.Disabled = pos 3
+result_code stepped.TheVariants.Memory = pos 8
+
+-- the event was enabled, and the machine has made it
+pub record HasMadeEvent (before after : Made) (event : Event) : Type 0 where
+  pub may : enabled before.state event ≡ true
+  pub state : after.state ≡ next before.state event
+  pub made : after.made ≡ before.made + 1
+
+-- what became of the event of a code. Where it wasn't made, the machine is as before
+abbrev pub IsCodeTried : Made → Made → EventCode → StepResult → Type 0
+IsCodeTried before after code stepped.TheVariants.Made = (event : Event) × (coded_event code ≡ Some event) × HasMadeEvent before after event
+IsCodeTried before after code stepped.TheVariants.Usage = ((coded_event code ≡ None) ⊎ (4000000000 ≤ before.made)) × (after ≡ before)
+IsCodeTried before after code stepped.TheVariants.Disabled = (event : Event) × (coded_event code ≡ Some event) × (enabled before.state event ≡ false) × (after ≡ before)
+IsCodeTried before after code stepped.TheVariants.Memory = after ≡ before

@@ -1,4 +1,0 @@
-pub mod Calls
-pub mod Codes
-pub mod Held
-pub mod Steps

@@ -1,0 +1,86 @@
+ghost use Rattle.std.specs.Prelude.{◌≡◌, IfOk, IfErr, map, string_bytes, Some, None, option_map};
+ghost use Rattle.clap.specs.Words.{rows_of, found_of, first_of};
+ghost use Rattle.dn_top.specs.Command.{mode_named, mode_in, options_from, options_of, OptionsInRange};
+ghost use Rattle.program_outside.specs.declared.words.WordsFault.TheVariants.{Usage};
+
+use crate::command::denovo;
+use crate::options::{Mode, Options};
+use clap::ArgMatches;
+use program_outside::{WordsFault, matches_by, number};
+use std::alloc::Global;
+
+/// The mode with this name.
+fn named(text: &str) -> Option<Mode>
+    ensures { result ≡ mode_named text.now }
+{
+    match text {
+        "run" => Some(Mode::Run),
+        "work" => Some(Mode::Work),
+        "check" => Some(Mode::Check),
+        "list" => Some(Mode::List),
+        "flat" => Some(Mode::Flat),
+        "trace" => Some(Mode::Trace),
+        "replay" => Some(Mode::Replay),
+        "time" => Some(Mode::Time),
+        "prove" => Some(Mode::Prove),
+        _ => None,
+    }
+}
+
+/// The text of an option.
+fn text_of<'a>(matches: &ArgMatches<'a>, name: &str) -> Option<&'a str>
+    ensures { option_map (λ s. s.now) result ≡ first_of name.now (rows_of (found_of matches.now)) }
+{
+    matches.get_str(name)
+}
+
+/// The mode that the words ask for.
+fn mode(matches: &ArgMatches<'_>) -> Option<Mode>
+    ensures { result ≡ mode_in (rows_of (found_of matches.now)) }
+{
+    match text_of(matches, "mode") {
+        Some(text) => named(text),
+        None => None,
+    }
+}
+
+/// The options that the values give, if the mode is one of the nine and each number is in its range.
+#[tactic(auto, unfolding(crate::specs::Command::options_from))]
+fn options(matches: &ArgMatches<'_>) -> Option<Options>
+    ensures value { result ≡ options_from (rows_of (found_of matches.now)) }
+    ensures limits { (o : _) → result ≡ Some o → OptionsInRange o }
+{
+    Some(Options {
+        mode: mode(matches)?,
+        seed: number(matches, "seed", 0, 4_294_967_295)?,
+        workers: number(matches, "workers", 1, 16)?,
+        banks: number(matches, "banks", 1, 16)?,
+        sets: number(matches, "sets", 1, 256)?,
+        ways: number(matches, "ways", 1, 16)?,
+        fuel: number(matches, "fuel", 1, 32_768)?,
+        size: number(matches, "size", 1, 128)?,
+        tick_core: number(matches, "tick-core", 1, 1_000_000)?,
+        tick_bank: number(matches, "tick-bank", 1, 1_000_000)?,
+        tick_mail: number(matches, "tick-mail", 1, 1_000_000)?,
+    })
+}
+
+/// What the arguments ask for. The program's own name isn't among them.
+///
+/// The options are `--mode`, `--seed`, `--workers`, `--banks`, `--sets`, `--ways`, `--fuel`, `--size`, `--tick-core`,
+/// `--tick-bank` and `--tick-mail`. Each has one value, whose range stands in `Options`, and may be given once at most, as
+/// `--seed 7` or `--seed=7`. The defaults are run, 1, 1, 4, 64, 4, 32768, 4, 1, 10 and 5. No other words are taken.
+///
+/// # Errors
+/// `Usage` if the command doesn't take the words, `Memory` if there is no room to read them.
+#[tactic(auto, unfolding(crate::specs::Command::options_of), using(crate::proofs::Commands::is_free, program_outside::proofs::Commands::not_taken))]
+pub fn read_words(alloc: Global, words: &[String]) -> Result<Options, WordsFault>
+    ensures taken { IfOk result (λ options. options_of (map string_bytes words.now) ≡ Some options) }
+    ensures limits { IfOk result OptionsInRange }
+    ensures usage { IfErr result (λ fault. fault ≡ Usage → options_of (map string_bytes words.now) ≡ None) }
+{
+    match options(&matches_by(denovo(alloc)?, words)?) {
+        Some(options) => Ok(options),
+        None => Err(WordsFault::Usage),
+    }
+}

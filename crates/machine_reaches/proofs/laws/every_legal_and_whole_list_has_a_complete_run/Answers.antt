@@ -1,5 +1,0 @@
-use Rattle.machine_reaches.proofs.Reaching.{reaches}
-use Rattle.machine_reaches.proofs.laws.every_legal_and_whole_list_has_a_complete_run.Goals as goal
-
-pub returns : goal.returns
-returns c = reaches

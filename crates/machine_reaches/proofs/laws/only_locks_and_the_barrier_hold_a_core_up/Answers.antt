@@ -1,8 +1,0 @@
-use Rattle.machine_reaches.proofs.Poised.{stops-at, to-locks}
-use Rattle.machine_reaches.proofs.laws.only_locks_and_the_barrier_hold_a_core_up.Goals as goal
-
-pub returns-clause-stops : goal.returns-clause-stops
-returns-clause-stops c = stops-at
-
-pub returns-clause-goes_on : goal.returns-clause-goes_on
-returns-clause-goes_on c = to-locks

@@ -1,7 +1,0 @@
-use Rattle.std.proofs.Common.{◌≡◌, map, string_bytes, drop, ◌++◌}
-use Rattle.memory_devices.specs.Words.{block_words_from, block_words}
-use Rattle.memory_devices.proofs.words.words_in.Given as goal
-
-abbrev pub invariant-loop-byte : goal.invariant-loop-byte
-invariant-loop-byte l =
-    map string_bytes l.words.items ++ block_words_from l.begun.items (drop l.byte-index l.block) ≡ block_words l.block

@@ -1,4 +1,0 @@
-pub mod Held
-pub mod Shown
-pub mod Words
-pub mod Calls

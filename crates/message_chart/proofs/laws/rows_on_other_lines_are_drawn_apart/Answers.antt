@@ -1,5 +1,0 @@
-use Rattle.std.proofs.Common.{arith}
-use Rattle.message_chart.proofs.laws.rows_on_other_lines_are_drawn_apart.Goals as goal
-
-pub returns : goal.returns
-returns c = λ a b apart. omega (arith, apart)

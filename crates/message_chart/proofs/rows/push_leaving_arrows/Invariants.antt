@@ -1,6 +1,0 @@
-use Rattle.std.proofs.Common.{◌≡◌, ◌++◌, drop, flat_map}
-use Rattle.message_chart.specs.Picture.{leaving_arrow}
-use Rattle.message_chart.proofs.rows.push_leaving_arrows.Given as goal
-
-abbrev pub invariant-loop-mail : goal.invariant-loop-mail
-invariant-loop-mail l = l.out.items ++ flat_map (leaving_arrow l.chart) (drop l.mail-index l.mails) ≡ l.fn.out.items ++ flat_map (leaving_arrow l.chart) l.mails

@@ -1,4 +1,0 @@
-pub mod Marks
-pub mod Places
-pub mod Labels
-pub mod Picture

@@ -1,5 +1,0 @@
-use Rattle.round_rules.proofs.Beginning.{all-acted}
-use Rattle.round_rules.proofs.laws.whoever_has_something_to_do_acts.Goals as goal
-
-pub returns : goal.returns
-returns c = all-acted

@@ -1,0 +1,110 @@
+//! Where the columns and rows stand.
+ghost use Rattle.std.specs.Prelude.{◌≡◌, ◌≤◌, ◌&&◌, nat_lt, if◌then◌else◌};
+ghost use Rattle.run_chart.specs.Elements.{x_of, y_of};
+ghost use Rattle.run_chart.specs.Picture.{bottom, height, width};
+ghost use Rattle.run_chart.specs.Places.{column, is_shown, place_of, shown_below};
+
+use crate::elements::{Point, x_of, y_of};
+use crate::parts::{Chart, ChartRow};
+use message_net::Actor;
+
+/// How many banks there may be.
+pub(crate) const MOST_BANKS: u32 = 16;
+
+fn one_if(counts: bool) -> u64
+    ensures value { result ≡ (if counts then 1 else 0) }
+    ensures most { result ≤ 1 }
+{
+    if counts { 1 } else { 0 }
+}
+
+impl Chart {
+    /// Whether a bank has a column.
+    pub(crate) fn is_shown(&self, bank: u32) -> bool
+        ensures { result ≡ is_shown self.now.shown bank }
+    {
+        match self.shown.get(bank as usize) {
+            Some(shown) => *shown,
+            None => false,
+        }
+    }
+
+    /// Whether it has one and a lower number than another bank.
+    fn is_below(&self, bank: u32, other: u32) -> bool
+        ensures { result ≡ (nat_lt bank other && is_shown self.now.shown bank) }
+    {
+        bank < other && self.is_shown(bank)
+    }
+
+    /// How many banks with a lower number have one.
+    fn shown_below(&self, bank: u32) -> u64
+        ensures value { result ≡ shown_below self.now.shown bank }
+        ensures most { result ≤ 16 }
+    {
+        let mut count = 0;
+        for other in 0..MOST_BANKS {
+            count += one_if(self.is_below(other, bank));
+        }
+        count
+    }
+
+    /// The place of an actor's column.
+    fn place_of(&self, actor: Actor) -> u64
+        ensures value { result ≡ place_of self.now actor }
+        ensures most { result ≤ 4294967311 }
+    {
+        match actor {
+            Actor::Core(core) => core.0 as u64,
+            Actor::Bank(bank) => self.shape.cores as u64 + self.shown_below(bank.0),
+            Actor::Keeper => self.shape.cores as u64 + self.shown_below(MOST_BANKS),
+        }
+    }
+
+    /// The middle of an actor's column.
+    pub(crate) fn column(&self, actor: Actor) -> u64
+        ensures value { result ≡ column self.now actor }
+        ensures least { 300 ≤ result }
+        ensures most { result ≤ 566935685352 }
+    {
+        x_of(self.place_of(actor))
+    }
+
+    /// The dot of a row.
+    pub(crate) fn dot(&self, row: &ChartRow) -> Point
+        ensures x { result.x ≡ column self.now row.now.actor }
+        ensures y { result.y ≡ y_of row.now.line }
+        ensures least_x { 300 ≤ result.x }
+        ensures most_x { result.x ≤ 566935685352 }
+        ensures least_y { 130 ≤ result.y }
+        ensures most_y { result.y ≤ 77309411440 }
+    {
+        Point {
+            x: self.column(row.actor),
+            y: y_of(row.line),
+        }
+    }
+
+    /// The picture's width.
+    pub(crate) fn width(&self) -> u64
+        ensures value { result ≡ width self.now }
+        ensures least { 600 ≤ result }
+        ensures most { result ≤ 566935685652 }
+    {
+        self.column(Actor::Keeper) + 300
+    }
+
+    /// Where the columns end.
+    pub(crate) fn bottom(&self) -> u64
+        ensures value { result ≡ bottom self.now }
+        ensures most { result ≤ 77309411440 }
+    {
+        y_of(self.lines)
+    }
+
+    /// The picture's height.
+    pub(crate) fn height(&self) -> u64
+        ensures value { result ≡ height self.now }
+    {
+        self.bottom() + 18
+    }
+}

@@ -1,5 +1,0 @@
-use Rattle.sharer_lists.proofs.Whole.{number-of-run}
-use Rattle.sharer_lists.proofs.laws.a_run_beside_lists_has_the_numbers_of_its_table.Goals as goal
-
-pub returns : goal.returns
-returns c = number-of-run

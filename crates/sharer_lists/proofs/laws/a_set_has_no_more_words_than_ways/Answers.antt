@@ -1,5 +1,0 @@
-use Rattle.sharer_lists.proofs.Small.{sets-small}
-use Rattle.sharer_lists.proofs.laws.a_set_has_no_more_words_than_ways.Goals as goal
-
-pub returns : goal.returns
-returns c = sets-small

@@ -1,5 +1,0 @@
-use Rattle.turn_lock.specs.Passes.{IsPassOf}
-use Rattle.turn_bench.proofs.runs.call_often.Given as goal
-
-abbrev pub invariant-loop-call : goal.invariant-loop-call
-invariant-loop-call g l = IsPassOf l.turn l.pass
