@@ -1,7 +1,8 @@
 -- The code's way to the places of a text without a fault is the definition's.
-use Rattle.std.proofs.Common.{◌≡◌, ℕ, zero, suc, ◌+◌, ◌-◌, ◌≤◌, Bool, true, false, cond, nat_lt, List, [], ◌∷◌, ◌++◌, length, map, Option, Some, None, Ok, Err, refl, sym, ap, ◌∙◌, subst, append_assoc, append-nil, length-append, filter_map, flat_map, arith}
+use Rattle.std.proofs.Common.{◌≡◌, ℕ, zero, suc, ◌+◌, ◌-◌, ◌<◌, ◌≤◌, Bool, true, false, cond, nat_lt, List, [], ◌∷◌, ◌++◌, length, map, Option, Some, None, Result, Ok, Err, IfOk, refl, sym, ap, ◌∙◌, subst, append_assoc, append-nil, length-append, filter_map, flat_map, arith}
 use Rattle.std.specs.List.{range_with_len, cons_option}
 use Rattle.std.proofs.lemmas.List.Elements.{filter_map-append}
+use Rattle.std.proofs.lemmas.Bool.Decides.{nat_tests}
 use Rattle.std.proofs.lemmas.List.Sums.{sum_by-cons}
 use Rattle.src_text.specs.declared.token.Token.{Token}
 use Rattle.src_text.specs.Line.{lines_of}
@@ -257,3 +258,18 @@ places-found text P is =
     let names = meaning_of text (sayings (readings text)) in
     good-lines no_places (readings text)
     ∙ places-all text names [] (sayings (readings text)) (faultless-from (nat_lt 0 (version_line text (lines_of text))) text names (readings text) [] [] refl (has-program text P is).none)
+
+pub places-in : {E : Type 0} (text : List ℕ) (P : ProgramParts) (r : Result Places E) → source text ≡ Ok P → IfOk r (λ places. places ≡ with_readings no_places (readings text))
+    → IfOk r (λ places. places ≡ text_places text)
+places-in text P (Err e) is places = tt
+places-in text P (Ok x) is places = places ∙ places-found text P is
+
+-- a text with a program isn't too large
+source-large : (text : List ℕ) → 1048576 < length text → source text ≡ Err fault.TheVariants.TooLarge
+source-large text more = let test : nat_lt 1048576 (length text) ≡ true = grind (arith, nat_tests) in rw test refl
+
+pub few-bytes : (text : List ℕ) (P : ProgramParts) → source text ≡ Ok P → length text ≤ 1048576
+few-bytes text P is = by_test (nat_lt 1048576 (length text)) refl where
+  by_test : (b : Bool) → nat_lt 1048576 (length text) ≡ b → length text ≤ 1048576
+  by_test true test = let more : 1048576 < length text = grind (arith, nat_tests) in let large = source-large text more in absurd (cc)
+  by_test false test = grind (arith, nat_tests)

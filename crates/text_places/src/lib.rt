@@ -12,7 +12,7 @@ pub use laws::{
     a_code_word_is_one_of_its_line, each_part_of_a_program_has_a_place, each_word_has_its_region,
 };
 pub use lines::line_text;
-pub use places::{CodePlace, Located, Places, TaskPlace, located_program};
+pub use places::{CodePlace, Located, Places, TaskPlace, located_program, text_places};
 pub use texts::{
     push_address, push_code_place, push_lock, push_quoted, push_quoted_line, push_word,
 };

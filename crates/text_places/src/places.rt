@@ -197,13 +197,26 @@ fn places_in(alloc: Global, version: u32, text: &[u8], lines: &[Line]) -> Result
 }
 
 /// The places in a text.
-fn text_places(alloc: Global, text: &[u8]) -> Result<Places, Memory>
+fn places_by_line(alloc: Global, text: &[u8]) -> Result<Places, Memory>
     requires { length text.now ≤ MOST_OF_TEXT }
     ensures { IfOk result (λ places. places ≡ with_readings no_places (readings text.now)) }
 {
     let tokenized = tokens(alloc, text)?;
     let lines = tokenized.as_slice();
     places_in(alloc, version_line(text, lines), text, lines)
+}
+
+/// The lines that the parts of a text's program come from. The caller has the program, so the text isn't assembled again.
+///
+/// # Errors
+/// `Memory` if there is no room.
+pub fn text_places(alloc: Global, text: &[u8], program: &Program) -> Result<Places, Memory>
+    requires { source text.now ≡ Ok program.now }
+    ensures { IfOk result (λ places. places ≡ definition.text_places text.now) }
+{
+    // for the proof alone: a text that has a program is one of good lines
+    let _program = program;
+    places_by_line(alloc, text)
 }
 
 /// The program of a source text with the lines of its parts, or the text's first fault.
@@ -218,6 +231,6 @@ pub fn located_program(alloc: Global, text: &[u8]) -> Result<Located, SourceFaul
     ensures large { MOST_OF_TEXT < length text.now → result ≡ Err TooLarge }
 {
     let program = assemble(alloc, text)?;
-    let places = text_places(alloc, text)?;
+    let places = text_places(alloc, text, &program)?;
     Ok(Located { program, places })
 }
