@@ -11,3 +11,4 @@ pub mod Spans
 pub mod TableClaims
 pub mod ToldLemmas
 pub mod WordsLemmas
+pub mod PartLemmas

@@ -1,4 +1,4 @@
--- The sentences on a conflict: which tasks conflict on which word, where they stand in the text, and how to mend it. Each line
+-- The sentences on a conflict: which tasks conflict on which word, where they stand in the text, and how to fix it. Each line
 -- is indented, which tells it from the lines of an answer.
 use Rattle.std.specs.Prelude.{ℕ, ◌-◌, ◌==◌, List, [], ◌++◌, length, take, flat_map, Option, Some, None, codes, find, if◌then◌else◌}
 use Rattle.std.specs.Fmt.{decimal}
@@ -38,7 +38,7 @@ guarded_task_text places phase None = codes "some task"
 unfoldable pub phase_text : ℕ → List ℕ
 phase_text phase = codes "  In phase " ++ decimal phase ++ codes ", "
 
--- ---- what is wrong, and how it is mended
+-- ---- what is wrong, and how it is fixed
 
 unfoldable pub stores_plainly : List ℕ
 stores_plainly = codes " may store to "
@@ -93,7 +93,7 @@ contenders_text l (conflict.TheVariants.PlainConflict phase a b w) = plain_text 
 contenders_text l (conflict.TheVariants.GuardedPlain phase lock core w) = guarded_plain_text l phase.0 lock.0 core.0 w.0
 contenders_text l (conflict.TheVariants.TwoLocks phase a b w) = two_locks_text l phase.0 a.0 b.0 w.0
 
--- how to mend it
+-- how to fix it
 abbrev pub conflict_remedy : CheckFault → List ℕ
 conflict_remedy (conflict.TheVariants.PlainConflict phase a b w) = apart_remedy
 conflict_remedy (conflict.TheVariants.GuardedPlain phase lock core w) = guard_remedy

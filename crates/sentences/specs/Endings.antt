@@ -1,4 +1,4 @@
--- The sentences on a task that didn't finish: where it stands in the text, why, and how to mend it. Each line is indented,
+-- The sentences on a task that didn't finish: where it stands in the text, why, and how to fix it. Each line is indented,
 -- which tells it from the lines of an answer.
 use Rattle.std.specs.Prelude.{ℕ, ◌-◌, ◌/◌, ◌%◌, ◌==◌, ◌&&◌, nat_le, nat_lt, List, [], ◌++◌, Option, Some, None, codes, slice_get, find, if◌then◌else◌}
 use Rattle.std.specs.Fmt.{decimal}
@@ -58,7 +58,7 @@ abbrev pub line_at : List ℕ → Option CodePlace → List ℕ
 line_at text (Some p) = stands_at text p
 line_at text None = codes " ended where there is no code." ++ newline
 
--- what is wrong, with the value of the trap in the middle, and how to mend it
+-- what is wrong, with the value of the trap in the middle, and how to fix it
 abbrev pub accesses_at : Option Access → List ℕ
 accesses_at (Some Load) = codes "A load from the address "
 accesses_at (Some Store) = codes "A store to the address "
@@ -95,7 +95,7 @@ remedy kind.TheVariants.Fetch = codes "End the task by `li a7, 0` and `ecall`."
 remedy kind.TheVariants.Illegal = codes "Only `.raw` makes such a word: write the instruction by its name."
 remedy kind.TheVariants.Target = codes "Jump to a label."
 remedy kind.TheVariants.Misaligned = codes "`lw` and `sw` need a multiple of 4, and `lh`, `lhu` and `sh` an even address."
-remedy kind.TheVariants.Outside = codes "Declare the word by an effect behind the task's line, or mend the address."
+remedy kind.TheVariants.Outside = codes "Declare the word by an effect behind the task's line, or correct the address."
 remedy kind.TheVariants.Break = codes "Leave it out, or end the task by `li a7, 0` and `ecall`."
 remedy kind.TheVariants.Call = codes "0 ends the task, 1 acquires the lock whose number is in a0, and 2 releases it."
 remedy kind.TheVariants.NoLock = codes "Locks are numbered from 0 in the order of their `.lock` lines; the number is in a0."
@@ -129,7 +129,7 @@ trap_text p k a value = indent ++ said_before k a ++ value_text p k value ++ sai
 unfoldable pub remedy_text : TrapKind → List ℕ
 remedy_text k = indent ++ remedy k ++ newline
 
--- how to mend a trap of the task of this core in this phase; and before that, where a load or store isn't allowed, why
+-- how to fix a trap of the task of this core in this phase; and before that, where a load or store isn't allowed, why
 abbrev pub mending_text : List ℕ → Located → ℕ → ℕ → TrapKind → Option Access → ℕ → List ℕ
 mending_text text l phase core kind.TheVariants.Outside (Some a) value = outside_sentences text l phase core a value
 mending_text text l phase core k a value = remedy_text k

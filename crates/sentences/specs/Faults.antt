@@ -1,4 +1,4 @@
--- The sentences on a text that is refused: the line with the fault, what is wrong on it, and how to mend it. Each line is
+-- The sentences on a text that is refused: the line with the fault, what is wrong on it, and how to fix it. Each line is
 -- indented, which tells it from the lines of an answer.
 use Rattle.std.specs.Prelude.{ℕ, ℤ, ◌||◌, nat_lt, List, [], ◌++◌, length, Option, Some, None, codes, if◌then◌else◌}
 use Rattle.std.specs.Fmt.{decimal, signed_decimal}
@@ -57,7 +57,7 @@ complaint (fault.TheVariants.Misplaced line) = codes "This statement may not sta
 complaint (fault.TheVariants.Limit line) = codes "With this line the program is larger than a program may be."
 complaint fault.TheVariants.Memory = codes "There was no memory."
 
--- how to mend it, by the kind of the fault
+-- how to fix it, by the kind of the fault
 abbrev pub amendment : SourceFault → List ℕ
 amendment fault.TheVariants.TooLarge = codes "Leave out blanks and comments, or make two programs of it."
 amendment (fault.TheVariants.BadByte line) = codes "Leave the byte out. If it belongs to a comment, put `#` before it."
@@ -72,7 +72,7 @@ amendment (fault.TheVariants.Misplaced line) = codes "Tasks stand behind a `.pha
 amendment (fault.TheVariants.Limit line) = codes "A program has at most 16384 code words, 65536 data words, 256 regions (4096 in version 2), 32 locks, 64 phases and 64 tasks."
 amendment fault.TheVariants.Memory = codes "Give it more memory."
 
--- how to mend a number or a label that is out of range
+-- how to fix a number or a label that is out of range
 abbrev pub range_amendment : Cause → List ℕ
 range_amendment (cause.TheVariants.Range low high) = codes "Write a number of this range; `li` makes a larger one in a register."
 range_amendment cause.TheVariants.Length = codes "Write a number of this range. All regions of a text have at most 65536 words together."
@@ -83,7 +83,7 @@ range_amendment cause.TheVariants.Cores = codes "Use cores from 0 to 15: the fir
 range_amendment cause.TheVariants.Address = codes "Write a label, or the address of an instruction."
 range_amendment c = codes "Write a number of its range, or a label that is nearer."
 
--- how to mend a statement that may not stand where it does
+-- how to fix a statement that may not stand where it does
 abbrev pub place_amendment : Cause → List ℕ
 place_amendment cause.TheVariants.NoPhase = codes "Write `.phase` before it: tasks stand behind the line of their phase."
 place_amendment (cause.TheVariants.CoreInUse line) = codes "Give it another core; or write `.phase` before it, if it is to start when the tasks before it have ended."
@@ -107,7 +107,7 @@ word_part x = word_by x.part x.cause
 abbrev pub span_between : List ℕ → Span → List ℕ
 span_between bytes p = bytes_between bytes p.start p.end
 
--- how to mend it, by what is wrong with a part of the line, if that is known
+-- how to fix it, by what is wrong with a part of the line, if that is known
 abbrev pub finding_amendment : SourceFault → List ℕ → Option Finding → List ℕ
 finding_amendment (fault.TheVariants.OutOfRange line) bytes (Some x) = range_amendment x.cause
 finding_amendment (fault.TheVariants.Misplaced line) bytes (Some x) = place_amendment x.cause
@@ -272,7 +272,7 @@ finding_or_kind line bytes f (Some x) = finding_text line bytes x
 abbrev pub finding_if_small : List ℕ → List ℕ → SourceFault → Option Finding
 finding_if_small text bytes f = if nat_lt 1048576 (length text) || nat_lt 1048576 (length bytes) then None else finding_of text bytes f
 
--- the line, what is wrong on it, the names that are declared as what is wanted, and how to mend it
+-- the line, what is wrong on it, the names that are declared as what is wanted, and how to fix it
 abbrev pub finding_sentences : List ℕ → SourceFault → ℕ → List ℕ → Option Finding → List ℕ
 finding_sentences text f line bytes x =
     indented_line text line ++ finding_or_kind line bytes f x ++ others text x ++ sentence (finding_amendment f bytes x)
@@ -280,7 +280,7 @@ finding_sentences text f line bytes x =
 unfoldable pub line_sentences : List ℕ → SourceFault → ℕ → List ℕ → List ℕ
 line_sentences text f line bytes = finding_sentences text f line bytes (finding_if_small text bytes f)
 
--- what is wrong and how to mend it, by the kind of the fault alone
+-- what is wrong and how to fix it, by the kind of the fault alone
 abbrev pub kind_sentences : SourceFault → List ℕ
 kind_sentences f = sentence (complaint f) ++ sentence (amendment f)
 

@@ -1,5 +1,5 @@
 -- Part of a line, and the mark under it.
-use Rattle.std.specs.Prelude.{ℕ, ◌+◌, ◌-◌, ◌&&◌, ◌==◌, Bool, nat_le, List, [], ◌∷◌, ◌++◌, length, map, take, replicate, slice_range, Option, Some, None, codes, if◌then◌else◌}
+use Rattle.std.specs.Prelude.{ℕ, ◌+◌, ◌-◌, ◌<◌, ◌≤◌, ◌&&◌, ◌==◌, Bool, nat_le, List, [], ◌∷◌, ◌++◌, length, map, take, replicate, slice_range, Option, Some, None, codes, if◌then◌else◌}
 use Rattle.std.specs.Fmt.{decimal}
 use Rattle.text_pieces.specs.Pieces.{newline}
 use Rattle.src_text.specs.Byte.{is_bad, is_hash}
@@ -9,6 +9,10 @@ use Rattle.src_text.specs.declared.token.Span.{Span}
 -- the bytes from `start` to before `end`; none where they aren't some of these
 abbrev pub bytes_between : List ℕ → ℕ → ℕ → List ℕ
 bytes_between bytes start end = if nat_le start end && nat_le end (length bytes) then slice_range bytes start end else []
+
+-- a part of the line: it has a byte, and ends within the line
+abbrev pub IsPartOf : List ℕ → Span → Type 0
+IsPartOf bytes p = (p.start < p.end) × (p.end ≤ length bytes)
 
 -- a token as part of its line
 abbrev pub part_by : Token → Span

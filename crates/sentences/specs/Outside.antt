@@ -1,5 +1,5 @@
 -- The sentences on a load or store that a task may not do: where its address is, what the task and the other tasks of its phase
--- declare of the word, and how to mend it. An effect that mends it is written out.
+-- declare of the word, and how to fix it. An effect that fixes it is written out.
 use Rattle.std.specs.Prelude.{ℕ, ◌+◌, Bool, bytes_eq, take, if◌then◌else◌, List, [], ◌++◌, Option, Some, None, codes, find, slice_get}
 use Rattle.std.specs.Fmt.{decimal}
 use Rattle.text_pieces.specs.Pieces.{newline}
@@ -43,7 +43,7 @@ unfoldable pub declare_it : List ℕ
 declare_it = codes "  Declare it behind the task's line by `"
 
 unfoldable pub or_mended : List ℕ
-or_mended = codes "`, or mend the address." ++ newline
+or_mended = codes "`, or correct the address." ++ newline
 
 unfoldable pub plain_remedy : ProgramParts → Access → WordPlace → List ℕ
 plain_remedy p a place = declare_it ++ plain_effect a ++ operands_of p place ++ or_mended
@@ -56,7 +56,7 @@ unfoldable pub own_words : List ℕ
 own_words = codes "  Two tasks that may store to the same word conflict: give each a word of its own by a step, as in `.writes "
 
 unfoldable pub by_step : List ℕ
-by_step = codes ", 0, 1, 1`, or mend the address.\n"
+by_step = codes ", 0, 1, 1`, or correct the address.\n"
 
 unfoldable pub step_remedy : ProgramParts → WordPlace → List ℕ
 step_remedy p place = own_words ++ name_of (slice_get p.regions place.region) ++ by_step
@@ -76,7 +76,7 @@ guarded_remedy p a lock place further =
     declare_it ++ guarded_effect a ++ lock_name (slice_get p.locks lock) ++ codes ", " ++ operands_of p place ++ further
 
 abbrev pub and_acquired : List ℕ
-and_acquired = codes "`, and acquire the lock first; or mend the address.\n"
+and_acquired = codes "`, and acquire the lock first; or correct the address.\n"
 
 abbrev pub while_held : List ℕ
 while_held = codes "`, and store to it only while the task holds the lock.\n"
@@ -85,10 +85,10 @@ unfoldable pub held_remedy : ProgramParts → Access → ℕ → WordPlace → L
 held_remedy p a lock place = guarded_remedy p a lock place while_held
 
 unfoldable pub acquire_remedy : ℕ → List ℕ
-acquire_remedy lock = codes "  Acquire the lock first, by `li a0, " ++ decimal lock ++ codes "`, `li a7, 1` and `ecall`; or mend the address.\n"
+acquire_remedy lock = codes "  Acquire the lock first, by `li a0, " ++ decimal lock ++ codes "`, `li a7, 1` and `ecall`; or correct the address.\n"
 
 unfoldable pub apart_remedy : List ℕ
-apart_remedy = codes "  Use it in another phase, or have one lock guard it for both tasks by `.greads` and `.gwrites`; or mend the address.\n"
+apart_remedy = codes "  Use it in another phase, or have one lock guard it for both tasks by `.greads` and `.gwrites`; or correct the address.\n"
 
 -- ---- what the other tasks declare
 
@@ -183,7 +183,7 @@ unfoldable pub last_region : List ℕ
 last_region = codes "  The last region, "
 
 unfoldable pub counted : List ℕ
-counted = codes ", counted from 0.\n  Mend the address, or give the region more words and declare them.\n"
+counted = codes ", counted from 0.\n  Correct the address, or give the region more words and declare them.\n"
 
 -- the last region, which has this number, and a word that it hasn't
 unfoldable pub lacked_word : Located → ℕ → ℕ → List ℕ

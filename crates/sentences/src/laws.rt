@@ -40,7 +40,9 @@ ghost use Rattle.text_places.specs.Places.{own_line, task_place, phase_row};
 ghost use Rattle.sentences.specs.declared.findings.Cause.TheVariants.{Range, Index, Interval, Operand};
 ghost use Rattle.sentences.specs.declared.findings.Finding.{Finding as FindingOf};
 ghost use Rattle.sentences.specs.declared.known.Known.{Known as KnownOf};
-ghost use Rattle.sentences.specs.Findings.{code_out_of_range, out_of_range_at, behind_label, operand_at};
+ghost use Rattle.sentences.specs.Findings.{code_out_of_range, out_of_range_at, behind_label, operand_at, finding_of};
+ghost use Rattle.sentences.specs.Marks.{IsPartOf};
+ghost use Rattle.rv_assembler.specs.declared.fault.SourceFault.{SourceFault};
 ghost use Rattle.sentences.specs.Operands.{IsWrongOperand};
 ghost use Rattle.sentences.specs.declared.examples.Form.{Form as FormOf};
 ghost use Rattle.sentences.specs.declared.wrong_operands.WrongOperand.{WrongOperand as WrongOperandOf};
@@ -203,4 +205,10 @@ pub fn each_part_comes_from_its_line()
 pub fn the_marked_operand_is_the_one_that_is_named()
     ensures { (version : ℕ) (bytes : List ℕ) (ts : List Token) (x : FindingOf) (word : PartOf) (w : WrongOperandOf) (form : FormOf) → operand_at version bytes ts ≡ Some x
         → x.cause ≡ Operand word w form → (x.part ≡ w.part) × IsWrongOperand version bytes (drop 1 (behind_label ts)) w }
+{}
+
+/// The part that is marked of a line with a fault lies in the line: it has a byte at least, and ends where the line does or
+/// before. So the marks stand under bytes of the line, and the part that the sentence names isn't empty.
+pub fn the_marked_part_lies_in_its_line()
+    ensures { (text bytes : List ℕ) (fault : SourceFault) (x : FindingOf) → finding_of text bytes fault ≡ Some x → IsPartOf bytes x.part }
 {}

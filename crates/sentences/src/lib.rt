@@ -37,9 +37,9 @@ pub use laws::{
     a_quoted_effect_claims_the_word_for_its_task, an_effect_gives_the_words_that_it_claims,
     an_effect_named_as_remedy_gives_the_right,
     an_effect_named_as_remedy_suits_all_tasks_of_its_line, each_part_comes_from_its_line,
-    the_marked_operand_is_the_one_that_is_named, the_named_words_are_those_of_the_region,
-    the_told_lines_are_those_of_the_task, what_is_said_of_other_tasks_holds,
-    what_is_said_of_own_effects_holds,
+    the_marked_operand_is_the_one_that_is_named, the_marked_part_lies_in_its_line,
+    the_named_words_are_those_of_the_region, the_told_lines_are_those_of_the_task,
+    what_is_said_of_other_tasks_holds, what_is_said_of_own_effects_holds,
 };
 pub use quotes::{line_spans, push_line};
 pub use refusal::push_refusal;

@@ -64,7 +64,7 @@ fn push_declare_it(out: &mut Vec<u8>) -> Result<(), Memory>
 fn push_or_mended(out: &mut Vec<u8>) -> Result<(), Memory>
     ensures { OnOk result (out.new.items ≡ out.old.items ++ or_mended) }
 {
-    push(out, b"`, or mend the address.\n")
+    push(out, b"`, or correct the address.\n")
 }
 
 /// Adds that a plain effect fixes the access.
@@ -113,7 +113,7 @@ fn push_own_words(out: &mut Vec<u8>) -> Result<(), Memory>
 fn push_by_step(out: &mut Vec<u8>) -> Result<(), Memory>
     ensures { OnOk result (out.new.items ≡ out.old.items ++ by_step) }
 {
-    push(out, b", 0, 1, 1`, or mend the address.\n")
+    push(out, b", 0, 1, 1`, or correct the address.\n")
 }
 
 /// Adds how the tasks of a family may store to words of a region.
@@ -204,7 +204,7 @@ fn push_acquire_remedy(out: &mut Vec<u8>, lock: usize) -> Result<(), Memory>
         &[
             Bytes(b"  Acquire the lock first, by `li a0, "),
             Long(lock as u64),
-            Bytes(b"`, `li a7, 1` and `ecall`; or mend the address.\n"),
+            Bytes(b"`, `li a7, 1` and `ecall`; or correct the address.\n"),
         ],
     )
 }
@@ -215,7 +215,7 @@ fn push_apart_remedy(out: &mut Vec<u8>) -> Result<(), Memory>
 {
     push(
         out,
-        b"  Use it in another phase, or have one lock guard it for both tasks by `.greads` and `.gwrites`; or mend the address.\n",
+        b"  Use it in another phase, or have one lock guard it for both tasks by `.greads` and `.gwrites`; or correct the address.\n",
     )
 }
 
@@ -291,7 +291,7 @@ fn push_others(
     match others {
         Others::Guarding(guardian) => {
             push_guarding(out, located, phase, guardian.core, guardian.lock)?;
-            let further = b"`, and acquire the lock first; or mend the address.\n";
+            let further = b"`, and acquire the lock first; or correct the address.\n";
             push_guarded_remedy(out, program, access, guardian.lock, place, further)
         }
         Others::Contending(other) => {
@@ -502,7 +502,7 @@ fn push_counted(out: &mut Vec<u8>) -> Result<(), Memory>
 {
     push(
         out,
-        b", counted from 0.\n  Mend the address, or give the region more words and declare them.\n",
+        b", counted from 0.\n  Correct the address, or give the region more words and declare them.\n",
     )
 }
 

@@ -72,7 +72,7 @@ fn remedy(kind: TrapKind) -> &'static [u8]
         TrapKind::Misaligned =>
             b"`lw` and `sw` need a multiple of 4, and `lh`, `lhu` and `sh` an even address.",
         TrapKind::Outside =>
-            b"Declare the word by an effect behind the task's line, or mend the address.",
+            b"Declare the word by an effect behind the task's line, or correct the address.",
         TrapKind::Break => b"Leave it out, or end the task by `li a7, 0` and `ecall`.",
         TrapKind::Call =>
             b"0 ends the task, 1 acquires the lock whose number is in a0, and 2 releases it.",
