@@ -1,14 +1,12 @@
 -- The rows of seeds that follow each other.
-use Rattle.std.proofs.Common.{◌≡◌, ℕ, ◌+◌, List, [], ◌∷◌, ◌++◌, length, Result, Ok, Err, OnOk, refl, sym, ap, ◌∙◌, subst, arith, append_assoc, append-nil, length-append}
+use Rattle.std.proofs.Common.{◌≡◌, ℕ, ◌+◌, List, [], ◌∷◌, ◌++◌, length, Result, Ok, Err, OnOk, sym, ap, ◌∙◌, subst, arith, append_assoc, append-nil, length-append}
 use Rattle.region_table.specs.Program.{ProgramParts}
 use Rattle.dn_machine.specs.declared.record.RunRecord.{RunRecord}
 use Rattle.dn_top.specs.Runs.{IsRunFor}
-use Rattle.sweep_top.specs.declared.options.Form.{Form}
-use Rattle.sweep_top.specs.declared.options.Form as form
 use Rattle.sweep_top.specs.declared.options.SweepOptions.{SweepOptions}
-use Rattle.sweep_top.specs.Answers.{SweepReply, sweep_text, swept, IsSweepOf}
+use Rattle.sweep_top.specs.Answers.{SweepReply, swept, IsSweepOf, IsTextOfRuns}
 use Rattle.sweep_top.specs.Runs.{options_at, AreRunsFrom}
-use Rattle.sweep_top.specs.Table.{table_head, table_row, table_rows, runs_table, HasRunRow, HasRunRows}
+use Rattle.sweep_top.specs.Table.{table_row, table_rows, HasRunRow, HasRunRows}
 
 module _ (P : ProgramParts) (o : SweepOptions) where
   -- one more run
@@ -53,16 +51,6 @@ module _ (P : ProgramParts) (o : SweepOptions) where
   last-more first last before mid now (Ok done) h k = one-more first last before mid now h k
   last-more first last before mid now (Err e) h k = tt
 
--- the table of the runs
-pub table-made : (P : ProgramParts) (o : SweepOptions) (text : List ℕ) (out : SweepReply)
-    → HasRunRows P o o.seeds.first (o.seeds.last + 1) table_head text → out ≡ swept text → IsSweepOf P o out
-unfolding runs_table
-table-made P o text out h is =
-    record {
-      runs = h.runs;
-      are = record { each = h.each; count = h.count };
-      answer = is ∙ ap swept (h.text ∙ by_form o.form);
-    }
-  where
-    by_form : (f : Form) → table_head ++ table_rows o.seeds.first h.runs ≡ sweep_text f o.seeds.first h.runs
-    by_form form.TheVariants.Csv = refl
+-- what is printed of the runs is the whole answer
+pub sweep-made : (P : ProgramParts) (o : SweepOptions) (text : List ℕ) (out : SweepReply) → IsTextOfRuns P o o.form text → out ≡ swept text → IsSweepOf P o out
+sweep-made P o text out h is = record { runs = h.runs; are = h.are; answer = is ∙ ap swept h.is }

@@ -10,6 +10,8 @@ use Rattle.sweep_top.specs.declared.options.SweepOptions.{SweepOptions}
 use Rattle.sweep_top.specs.declared.status.SweepStatus.{SweepStatus}
 use Rattle.sweep_top.specs.declared.status.SweepStatus as status
 use Rattle.sweep_top.specs.Runs.{AreRunsOf}
+use Rattle.sweep_top.specs.AnswerTable.{answers_table}
+use Rattle.sweep_top.specs.Summary.{runs_summary}
 use Rattle.sweep_top.specs.Table.{runs_table}
 
 -- a status of the program, and all bytes that are to be written
@@ -18,7 +20,15 @@ SweepReply = Output SweepStatus
 
 -- what is printed of the runs of the seeds from the first one on
 abbrev pub sweep_text : Form → ℕ → List RunRecord → List ℕ
+sweep_text form.TheVariants.Summary first runs = runs_summary first runs
+sweep_text form.TheVariants.Answers first runs = answers_table first runs
 sweep_text form.TheVariants.Csv first runs = runs_table first runs
+
+-- the program was run by each seed that is asked for, and this is what is printed of the runs in a form
+pub record IsTextOfRuns (P : ProgramParts) (o : SweepOptions) (f : Form) (text : List ℕ) : Type 0 where
+  pub runs : List RunRecord
+  pub are : AreRunsOf P o runs
+  pub is : text ≡ sweep_text f o.seeds.first runs
 
 abbrev pub swept : List ℕ → SweepReply
 swept text = record { status = status.TheVariants.Swept; bytes = text }

@@ -19,7 +19,7 @@ unfoldable pub sweep_command : App
 sweep_command =
     with_rule (with_rule (with_rule (with_rule (with_rule (with_rule (bare (new_app (codes "sweep")))
     (text_rule (codes "seeds") (codes "1..1000")))
-    (text_rule (codes "form") (codes "csv")))
+    (text_rule (codes "form") (codes "summary")))
     (number_rule (codes "banks") (codes "4")))
     (number_rule (codes "sets") (codes "64")))
     (number_rule (codes "ways") (codes "4")))
@@ -52,7 +52,9 @@ seeds_named text = option_and_then (λ (parts : Text × Text). option_and_then (
 
 abbrev pub sweep_form_named : Text → Option Form
 sweep_form_named text =
-    if bytes_eq text (codes "csv") then Some form.TheVariants.Csv
+    if bytes_eq text (codes "summary") then Some form.TheVariants.Summary
+    else if bytes_eq text (codes "answers") then Some form.TheVariants.Answers
+    else if bytes_eq text (codes "csv") then Some form.TheVariants.Csv
     else None
 
 abbrev pub seeds_in : List Row → Option Seeds

@@ -1,7 +1,13 @@
+pub mod AnswerLaws
+pub mod AnswerTable
 pub mod Answers
 pub mod Checksum
 pub mod Command
+pub mod Kept
 pub mod Laws
 pub mod Runs
+pub mod SpreadLaws
 pub mod Status
+pub mod Summary
 pub mod Table
+pub mod Tally

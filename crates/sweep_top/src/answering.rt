@@ -2,14 +2,18 @@ ghost use Rattle.std.specs.Prelude.{◌≡◌, IfOk, IfErr};
 ghost use Rattle.dn_machine.specs.Kept.{IsInitialMachine};
 ghost use Rattle.run_report.specs.Texts.{HasChecked, IsStop, IsUnfit};
 ghost use Rattle.dn_top.specs.Runs.{shape_for};
+ghost use Rattle.sweep_top.specs.declared.options.Form.TheVariants.{Summary, Answers, Csv};
 ghost use Rattle.sweep_top.specs.Command.{IsSweepInRange};
 ghost use Rattle.sweep_top.specs.Runs.{options_at};
-ghost use Rattle.sweep_top.specs.Answers.{swept, IsSweepOf, IsSweepAnswer};
+ghost use Rattle.sweep_top.specs.Answers.{swept, IsSweepOf, IsSweepAnswer, IsTextOfRuns};
 
+use crate::answers::answer_table;
 use crate::options::{Form, SweepOptions};
 use crate::running::shape_of;
 use crate::status::SweepStatus;
+use crate::summary::summary;
 use crate::table::table;
+use crate::tally::tally_of_seeds;
 use dn_base::{Memory, Sequence};
 use dn_machine::Machine;
 use effect_checker::Checked;
@@ -30,15 +34,53 @@ fn swept(text: Vec<u8>) -> Reply
     }
 }
 
+/// Makes the runs of all seeds on a machine at its start, and sums them up.
+fn summary_on(alloc: Global, options: &SweepOptions, machine: &Machine) -> Result<Vec<u8>, Memory>
+    requires limits { IsSweepInRange options.now }
+    requires machine { IsInitialMachine machine.now.state.setting.program (shape_for machine.now.state.setting.program (options_at options.now 0)) options.now.fuel machine.now }
+    ensures { IfOk result (λ text. IsTextOfRuns machine.now.state.setting.program options.now Summary text.items) }
+{
+    summary(alloc, &tally_of_seeds(alloc, options, machine)?)
+}
+
+/// Makes the runs of all seeds on a machine at its start, and prints their answers.
+fn answers_on(alloc: Global, options: &SweepOptions, machine: &Machine) -> Result<Vec<u8>, Memory>
+    requires limits { IsSweepInRange options.now }
+    requires machine { IsInitialMachine machine.now.state.setting.program (shape_for machine.now.state.setting.program (options_at options.now 0)) options.now.fuel machine.now }
+    ensures { IfOk result (λ text. IsTextOfRuns machine.now.state.setting.program options.now Answers text.items) }
+{
+    answer_table(alloc, &tally_of_seeds(alloc, options, machine)?.answers)
+}
+
+/// Makes the runs of all seeds on a machine at its start, and prints each.
+fn table_on(alloc: Global, options: &SweepOptions, machine: &Machine) -> Result<Vec<u8>, Memory>
+    requires limits { IsSweepInRange options.now }
+    requires machine { IsInitialMachine machine.now.state.setting.program (shape_for machine.now.state.setting.program (options_at options.now 0)) options.now.fuel machine.now }
+    ensures { IfOk result (λ text. IsTextOfRuns machine.now.state.setting.program options.now Csv text.items) }
+{
+    table(alloc, options, machine)
+}
+
+/// Makes the runs of all seeds on a machine at its start, and prints them in the form that is asked for.
+fn text_on(alloc: Global, options: &SweepOptions, machine: &Machine) -> Result<Vec<u8>, Memory>
+    requires limits { IsSweepInRange options.now }
+    requires machine { IsInitialMachine machine.now.state.setting.program (shape_for machine.now.state.setting.program (options_at options.now 0)) options.now.fuel machine.now }
+    ensures { IfOk result (λ text. IsTextOfRuns machine.now.state.setting.program options.now options.now.form text.items) }
+{
+    match options.form {
+        Form::Summary => summary_on(alloc, options, machine),
+        Form::Answers => answers_on(alloc, options, machine),
+        Form::Csv => table_on(alloc, options, machine),
+    }
+}
+
 /// Makes the runs of all seeds on a machine at its start, and prints them.
 fn sweep_on(alloc: Global, options: &SweepOptions, machine: &Machine) -> Result<Reply, Memory>
     requires limits { IsSweepInRange options.now }
     requires machine { IsInitialMachine machine.now.state.setting.program (shape_for machine.now.state.setting.program (options_at options.now 0)) options.now.fuel machine.now }
     ensures { IfOk result (IsSweepOf machine.now.state.setting.program options.now) }
 {
-    match options.form {
-        Form::Csv => Ok(swept(table(alloc, options, machine)?)),
-    }
+    Ok(swept(text_on(alloc, options, machine)?))
 }
 
 /// Makes the runs of a checked program by all seeds, and prints them.

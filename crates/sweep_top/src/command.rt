@@ -9,7 +9,7 @@ use std::alloc::{AllocError, Global};
 /// The options of the command, with their defaults.
 const OPTIONS: [(&str, OptionValue<'_>); 6] = [
     ("seeds", OptionValue::Text("1..1000")),
-    ("form", OptionValue::Text("csv")),
+    ("form", OptionValue::Text("summary")),
     ("banks", OptionValue::Number("4")),
     ("sets", OptionValue::Number("64")),
     ("ways", OptionValue::Number("4")),

@@ -4,6 +4,10 @@ pub const MOST_SEEDS: u32 = 1_000_000;
 /// What is printed of the runs.
 #[derive(Clone, Copy)]
 pub enum Form {
+    /// How many runs there are, how they ended, how many different answers they have, and the least and the most of their numbers.
+    Summary,
+    /// A table with a row for each different answer, whose columns have commas between them.
+    Answers,
     /// A table with a row for each seed, whose columns have commas between them.
     Csv,
 }

@@ -1,24 +1,23 @@
 //! The table of runs.
-ghost use Rattle.std.specs.Prelude.{◌≡◌, ◌<◌, ◌≤◌, ◌+◌, ◌++◌, flat_map, length, sum, IfOk, OnOk};
+ghost use Rattle.std.specs.Prelude.{◌≡◌, ◌<◌, ◌≤◌, ◌+◌, ◌++◌, flat_map, IfOk, OnOk};
 ghost use Rattle.dn_machine.specs.Kept.{IsInitialMachine};
-ghost use Rattle.run_report.specs.Summary.{retired_by_all};
 ghost use Rattle.checked_runs.specs.Runs.{IsPrintable};
 ghost use Rattle.dn_top.specs.Runs.{shape_for};
 ghost use Rattle.sweep_top.specs.Runs.{options_at};
 ghost use Rattle.sweep_top.specs.Table.{checksum_cell, count_cell, counts_part, table_head, table_row, HasRunRow, HasRunRows};
 
 use crate::hashing::{checksum, push_long_hexadecimal};
+use crate::numbers::{events, retired};
 use crate::options::{Seeds, SweepOptions};
 use crate::running::run_of;
 use dn_base::Memory;
 use dn_machine::{Machine, RunRecord};
 use run_report::{answer_text, grant_text, outcome_name};
-use rv_core::TaskEnd;
 use std::alloc::Global;
 use text_pieces::{push, push_decimal, push_long};
 
 /// Appends a cell with a count.
-fn push_count(out: &mut Vec<u8>, count: u64) -> Result<(), Memory>
+pub(crate) fn push_count(out: &mut Vec<u8>, count: u64) -> Result<(), Memory>
     ensures { OnOk result (out.new.items ≡ out.old.items ++ count_cell count) }
 {
     push(out, b",")?;
@@ -35,25 +34,9 @@ fn push_counts(out: &mut Vec<u8>, counts: &[u64]) -> Result<(), Memory>
     Ok(())
 }
 
-/// How many events of all kinds there were.
-fn events(kinds: &[u64]) -> u64
-    requires { sum kinds.now < 18446744073709551616 }
-    ensures { result ≡ sum kinds.now }
-{
-    kinds.iter().sum()
-}
-
-/// The instructions that all tasks retired.
-fn retired(tasks: &[TaskEnd]) -> u64
-    requires { length tasks.now ≤ 64 }
-    ensures { result ≡ retired_by_all tasks.now }
-{
-    tasks.iter().map(|task| u64::from(task.retired)).sum()
-}
-
 /// Appends a cell with the checksum of a text.
 #[tactic(auto, unfolding(crate::specs::Table::checksum_cell))]
-fn push_checksum(out: &mut Vec<u8>, text: &[u8]) -> Result<(), Memory>
+pub(crate) fn push_checksum(out: &mut Vec<u8>, text: &[u8]) -> Result<(), Memory>
     ensures { OnOk result (out.new.items ≡ out.old.items ++ checksum_cell text.now) }
 {
     push(out, b",")?;

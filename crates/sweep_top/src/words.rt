@@ -67,6 +67,8 @@ fn form_named(text: &str) -> Option<Form>
     ensures { result ≡ sweep_form_named text.now }
 {
     match text {
+        "summary" => Some(Form::Summary),
+        "answers" => Some(Form::Answers),
         "csv" => Some(Form::Csv),
         _ => None,
     }
@@ -120,8 +122,8 @@ fn sweep(matches: &ArgMatches<'_>) -> Option<SweepOptions>
 ///
 /// The command has the options `--seeds`, `--form`, `--banks`, `--sets`, `--ways` and `--fuel`, each with one value, and takes no
 /// other words. The seeds are written as `1..1000`: the first and the last one, at most 1,000,000. `SweepOptions` has the ranges
-/// of the numbers. An option may be given once at most, as `--fuel 7` or `--fuel=7`. The defaults are 1..1000, csv, 4, 64, 4 and
-/// 32768.
+/// of the numbers. An option may be given once at most, as `--fuel 7` or `--fuel=7`. The defaults are 1..1000, summary, 4, 64, 4
+/// and 32768.
 ///
 /// # Errors
 /// `Usage` if the command doesn't take the words, `Memory` if there is no room to read them.

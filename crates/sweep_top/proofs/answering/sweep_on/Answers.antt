@@ -1,6 +1,6 @@
-use Rattle.sweep_top.proofs.RowLemmas.{table-made}
+use Rattle.sweep_top.proofs.RowLemmas.{sweep-made}
 use Rattle.sweep_top.proofs.answering.sweep_on.Goals as goal
 
 pub returns : goal.returns
 returns c =
-    table-made c.args.machine.now.state.setting.program c.args.options.now c.in_ok-table.field-0.items c.swept.result c.in_ok-table.ensures c.swept.ensures
+    sweep-made c.args.machine.now.state.setting.program c.args.options.now c.in_ok-text_on.field-0.items c.swept.result c.in_ok-text_on.ensures c.swept.ensures
