@@ -45,6 +45,7 @@ PARTS = [functools.partial(shown.states_are_those_of_the_reference, example, wor
     explained.verdicts_are_explained,
     explained.remedies_lead_on,
     explained.texts_are_refused_alike,
+    explained.answers_are_explained_one_after_the_other,
     explained.answers_of_other_texts_are_refused,
     explained.answers_before_any_text_are_taken,
     claimed.another_simulator_is_compared,

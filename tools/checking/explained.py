@@ -126,6 +126,23 @@ def texts_are_refused_alike():
             check(f"{' '.join(program)} of {name}", (ran.returncode, ran.stdout) == (2, answer), ran.stdout)
 
 
+def answers_are_explained_one_after_the_other():
+    """Answers of runs in a row are explained as each is alone: a task that waits in one of them waits for the holder in that one."""
+    text = "examples/crossed-locks.s"
+    source = pathlib.Path(text).read_bytes()
+    asked = ([], ["--seed", "1"], ["--seed", "6"], ["--mode", "flat"], ["--mode", "work"], ["--seed", "1"])
+    answers = [run(programs("denovo")[0] + words, source).stdout for words in asked]
+    alone = [run(programs("explain")[0] + [text], answer).stdout for answer in answers]
+    for order in (answers, answers[::-1]):
+        ran = run(programs("explain")[0] + [text], b"".join(order))
+        wanted = b"".join(alone if order is answers else alone[::-1])
+        check("answers one after the other", (ran.returncode, ran.stdout) == (0, wanted), ran.stdout)
+    waits = b"waits for first (lock 0), which isn't given up.\n  The task of core 0 in phase 0, which line 9 declares, holds this lock.\n"
+    other = answers[1] + b"outcome done\ngrant 0 1 0\n"
+    ran = run(programs("explain")[0] + [text], other)
+    check("a grant of the next answer names no holder of the first", waits in ran.stdout, ran.stdout)
+
+
 def answers_of_other_texts_are_refused():
     """The first line of a listing, or of a document, that isn't this text's is named; also where it is missing."""
     text = ".region m, 2\n.phase\n.task 0, go, 0\ngo: li a7, 0\necall\n"

@@ -3,7 +3,7 @@ use Rattle.std.proofs.Common.{◌≡◌, ℕ, ◌+◌, ◌≤◌, ◌==◌, Bool
 use Rattle.std.specs.List.{All}
 use Rattle.std.proofs.lemmas.Grind.{flat_map-append}
 use Rattle.std.proofs.lemmas.List.{append-nil}
-use Rattle.std.proofs.lemmas.List.Elements.{All-append}
+use Rattle.std.proofs.lemmas.List.Elements.{All-nil, All-cons, All-append}
 use Rattle.dn_base.specs.declared.ids.Grant.{Grant}
 use Rattle.dn_base.specs.declared.ids.Shape.{Shape}
 use Rattle.message_net.specs.declared.event.EventKind.{EventKind}
@@ -24,7 +24,9 @@ use Rattle.explained_answer.proofs.Printed.{ending-is, run-is}
 use Rattle.explained_answer.specs.declared.explaining.Explained.{Explained}
 use Rattle.explained_answer.specs.declared.explaining.Explained.TheVariants.{Text}
 use Rattle.explained_answer.specs.Holders.{grant_on, answer_grants}
-use Rattle.explained_answer.specs.Lines.{IsLineOf, explained_line}
+use Rattle.explained_answer.specs.Lines.{IsLineOf}
+use Rattle.explained_answer.specs.Several.{IsOneAnswer}
+use Rattle.explained_answer.proofs.SeveralLemmas.{IsBehind, one-explained}
 use Rattle.explained_answer.specs.Explained.{IsLocated, HasNoConflict, IsExplained}
 use Rattle.explained_answer.proofs.AllTaken.{all-taken}
 use Rattle.companion_laws.specs.Holding.{IsReportExplained}
@@ -69,12 +71,55 @@ run-grants gs counts =
     ∙ (λ i. own-grants gs i ++ kind-grants counts all_kinds i)
     ∙ append-nil gs
 
+-- ---- a report is one answer
+
+tasks-behind : (ts : List TaskEnd) → All IsBehind (map line.TheVariants.Task ts)
+tasks-behind [] = All-nil IsBehind
+tasks-behind (t ∷ ts) = All-cons IsBehind (line.TheVariants.Task t) (map line.TheVariants.Task ts) refl (tasks-behind ts)
+
+words-behind : (w : ℕ) (values : List ℕ) → All IsBehind (shown_words w values)
+words-behind w [] = All-nil IsBehind
+words-behind w (v ∷ vs) =
+    All-append IsBehind (if v == 0 then [] else line.TheVariants.Word w v ∷ []) (shown_words (w + 1) vs) (by_test (v == 0)) (words-behind (w + 1) vs)
+  where
+    by_test : (b : Bool) → All IsBehind (if b then [] else line.TheVariants.Word w v ∷ [])
+    by_test true = All-nil IsBehind
+    by_test false = All-cons IsBehind (line.TheVariants.Word w v) [] refl (All-nil IsBehind)
+
+grants-behind : (gs : List Grant) → All IsBehind (map line.TheVariants.Grant gs)
+grants-behind [] = All-nil IsBehind
+grants-behind (g ∷ gs) = All-cons IsBehind (line.TheVariants.Grant g) (map line.TheVariants.Grant gs) refl (grants-behind gs)
+
+kinds-behind : (counts : Counts) (kinds : List EventKind) → All IsBehind (map (kind_line_of counts) kinds)
+kinds-behind counts [] = All-nil IsBehind
+kinds-behind counts (k ∷ ks) = All-cons IsBehind (kind_line_of counts k) (map (kind_line_of counts) ks) refl (kinds-behind counts ks)
+
+ending-behind : (e : Ending) → All IsBehind (map line.TheVariants.Task e.tasks ++ line.TheVariants.Count count.TheVariants.Words (length e.memory) ∷ shown_words 0 e.memory)
+ending-behind e =
+    let words : AnswerLine = line.TheVariants.Count count.TheVariants.Words (length e.memory) in
+    All-append IsBehind (map line.TheVariants.Task e.tasks) (words ∷ shown_words 0 e.memory) (tasks-behind e.tasks)
+    (All-cons IsBehind words (shown_words 0 e.memory) refl (words-behind 0 e.memory))
+
+run-behind : (gs : List Grant) (counts : Counts) → All IsBehind (run_lines gs counts)
+run-behind gs counts =
+    let events : AnswerLine = line.TheVariants.Count count.TheVariants.Events (sum counts.kinds) in
+    All-append IsBehind (map line.TheVariants.Grant gs) (events ∷ map (kind_line_of counts) all_kinds) (grants-behind gs)
+    (All-cons IsBehind events (map (kind_line_of counts) all_kinds) refl (kinds-behind counts all_kinds))
+
+one-report : (e : Ending) (gs : List Grant) (counts : Counts) → IsOneAnswer (ending_lines e ++ run_lines gs counts)
+one-report e gs counts = (refl, All-append IsBehind _ (run_lines gs counts) (ending-behind e) (run-behind gs counts))
+
 -- ---- a report
 
 pub report-explained : (text : List ℕ) (l : Located) (machine : Shape) (fuel : ℕ) (r : RunRecord) (e : Explained) → IsLocated text l → HasNoConflict l.program → fuel ≤ 32768
     → IsRunOf l.program machine fuel r → IsExplained text (reported r) e → IsReportExplained text l r e
 report-explained text l machine fuel r e at' none most is h =
-    record { lines = xs ++ ys; are = same; said = all-taken text (reported r) l at' (xs ++ ys) all same none e h ∙ ap (λ (gs : List Grant). Text (flat_map (explained_line text l gs) (xs ++ ys))) grants }
+    record {
+      lines = xs ++ ys;
+      are = same;
+      grants = grants;
+      said = all-taken text (reported r) l at' (xs ++ ys) all same none e h ∙ ap Text (one-explained text l (xs ++ ys) (one-report (ending_seen is.flat.end'.ending) r.grants r.counts));
+    }
   where
     xs : List AnswerLine
     xs = ending_lines (ending_seen is.flat.end'.ending)

@@ -14,8 +14,8 @@ use Rattle.explained_answer.specs.declared.line.AnswerLine.{AnswerLine}
 use Rattle.explained_answer.specs.AnswerLines.{answer_line}
 use Rattle.explained_answer.specs.declared.explaining.Explained.{Explained}
 use Rattle.explained_answer.specs.declared.explaining.Explained.TheVariants.{Text}
-use Rattle.explained_answer.specs.Holders.{holder_of}
-use Rattle.explained_answer.specs.Lines.{explained_line}
+use Rattle.explained_answer.specs.Holders.{answer_grants, holder_of}
+use Rattle.explained_answer.specs.Lines.{answer_and_sentences}
 
 -- after these grants the core's task of the phase, which is the current one, holds the lock
 pub record HoldsLock (P : ProgramParts) (fuel : ℕ) (grants : List Grant) (phase core lock : ℕ) : Type 0 where
@@ -33,8 +33,9 @@ pub record HasHolder (P : ProgramParts) (fuel : ℕ) (grants : List Grant) (phas
   pub told : holder_of grants phase lock ≡ Some core
   pub holds : HoldsLock P fuel grants phase core lock
 
--- a reported run was explained: after each of its lines comes what the grants of the run say of it
+-- a reported run was explained: after each of its lines comes what its lines say of it, and their grants are those of the run
 pub record IsReportExplained (text : List ℕ) (l : Located) (r : RunRecord) (e : Explained) : Type 0 where
   pub lines : List AnswerLine
   pub are : reported r ≡ flat_map answer_line lines
-  pub said : e ≡ Text (flat_map (explained_line text l r.grants) lines)
+  pub grants : answer_grants lines ≡ r.grants
+  pub said : e ≡ Text (answer_and_sentences text l lines)

@@ -1,15 +1,17 @@
 -- The last grant of each lock, and what one more line changes.
 use Rattle.std.proofs.Common.{◌≡◌, ℕ, zero, suc, ◌+◌, ◌<◌, Bool, true, false, cond, ◌&&◌, ◌==◌, List, [], ◌∷◌, ◌++◌, length, replicate, take, get_or, find, flat_map, slice_index_or, slice_set, All, Option, Some, None, refl, sym, ap, subst, ◌∙◌, arith}
 use Rattle.std.proofs.lemmas.Bool.{eqb-true, eqb-false, ltb-true, false≢true}
-use Rattle.std.proofs.lemmas.List.{reverse-append, append-nil, length-map, length-set, get_or-map, map_more, get_or-set_same, get_or-set_other}
+use Rattle.std.proofs.lemmas.List.{reverse-append, append-nil, append_assoc, length-map, length-set, get_or-map, map_more, get_or-set_same, get_or-set_other}
 use Rattle.std.proofs.lemmas.List.Elements.{All-get_or}
 use Rattle.std.proofs.lemmas.Grind.{flat_map-append}
 use Rattle.dn_base.specs.declared.ids.Grant.{Grant}
+use Rattle.rv_core.specs.declared.ending.TaskEnd.{TaskEnd}
 use Rattle.text_places.specs.declared.places.Located.{Located}
 use Rattle.explained_answer.specs.declared.line.AnswerLine.{AnswerLine}
 use Rattle.explained_answer.specs.declared.line.AnswerLine as line
 use Rattle.explained_answer.specs.declared.parsing.ReadLine.{ReadLine}
 use Rattle.explained_answer.specs.AnswerLines.{answer_line}
+use Rattle.explained_answer.specs.Ended.{named_on}
 use Rattle.explained_answer.specs.Holders.{is_of_lock, last_grant, AreLastGrants, grant_on, answer_grants, holder_on, with_last_grant}
 use Rattle.explained_answer.specs.Lines.{has_task, has_named_lock, IsLineOf, line_read, lines_in, sentences_behind, explained_line}
 
@@ -103,14 +105,17 @@ more-grants l read table after i d are within room so_far note =
       ap length note ∙ length-with_last_grant table x ∙ room,
     )
 
--- one more line explained
-pub more-explained : (text : List ℕ) (l : Located) (read : List ReadLine) (table : List (Option Grant)) (i : ℕ) (d : ReadLine) (before after : List ℕ) (holder : Option ℕ)
-    → i < length read → ((grants : List Grant) → AreLastGrants grants table → holder ≡ holder_on grants (get_or read i d).line)
-    → AreLastGrants (answer_grants (lines_in read)) table → before ≡ flat_map (explained_line text l (answer_grants (lines_in read))) (lines_in (take i read))
-    → after ≡ before ++ (answer_line (get_or read i d).line ++ sentences_behind text l holder (get_or read i d).line)
-    → after ≡ flat_map (explained_line text l (answer_grants (lines_in read))) (lines_in (take (i + 1) read))
-more-explained text l read table i d before after holder within tells are so_far said =
-    let gs = answer_grants (lines_in read) in
+-- one more line explained, after the bytes `front`
+pub more-explained : (text : List ℕ) (l : Located) (read : List ReadLine) (i : ℕ) (d : ReadLine) (front before after : List ℕ) (holder : Option ℕ) (named : Option TaskEnd)
+    → i < length read → holder ≡ holder_on (answer_grants (lines_in read)) (get_or read i d).line → named ≡ named_on (lines_in read) (get_or read i d).line
+    → before ≡ front ++ flat_map (explained_line text l (lines_in read)) (lines_in (take i read))
+    → after ≡ before ++ (answer_line (get_or read i d).line ++ sentences_behind text l holder named (get_or read i d).line)
+    → after ≡ front ++ flat_map (explained_line text l (lines_in read)) (lines_in (take (i + 1) read))
+more-explained text l read i d front before after holder named within holds names so_far said =
+    let lines = lines_in read in
     let x = (get_or read i d).line in
-    said ∙ ap (λ (h : Option ℕ). before ++ (answer_line x ++ sentences_behind text l h x)) (tells gs are)
-    ∙ ap (λ (bs : List ℕ). bs ++ explained_line text l gs x) so_far ∙ sym (flat-more (explained_line text l gs) read i d within)
+    let told = flat_map (explained_line text l lines) (lines_in (take i read)) in
+    said ∙ ap (λ (h : Option ℕ). before ++ (answer_line x ++ sentences_behind text l h named x)) holds
+    ∙ ap (λ (n : Option TaskEnd). before ++ (answer_line x ++ sentences_behind text l (holder_on (answer_grants lines) x) n x)) names
+    ∙ ap (λ (bs : List ℕ). bs ++ explained_line text l lines x) so_far ∙ append_assoc front told (explained_line text l lines x)
+    ∙ ap (λ (bs : List ℕ). front ++ bs) (sym (flat-more (explained_line text l lines) read i d within))

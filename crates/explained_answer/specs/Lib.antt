@@ -1,10 +1,13 @@
 pub mod AnswerLines
 pub mod Answers
+pub mod CauseLaws
+pub mod Ended
 pub mod Explained
 pub mod Fronts
 pub mod Holders
 pub mod Lines
 pub mod Listing
 pub mod Parts
+pub mod Several
 pub mod Trace
 pub mod Verdicts

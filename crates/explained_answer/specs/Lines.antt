@@ -1,8 +1,8 @@
 -- What is said after each line of an answer, and which lines an answer of a program may have.
-use Rattle.std.specs.Prelude.{◌≡◌, ◌⊎◌, ℕ, ◌+◌, ◌<◌, Bool, true, false, ◌&&◌, ◌==◌, nat_lt, List, [], ◌++◌, codes, length, find, map, flat_map, Option, Some, None}
+use Rattle.std.specs.Prelude.{◌≡◌, ◌⊎◌, ℕ, ◌+◌, ◌<◌, ◌≤◌, Bool, true, false, ◌&&◌, ◌==◌, nat_lt, List, [], ◌++◌, codes, length, find, map, flat_map, Option, Some, None}
 use Rattle.std.specs.Fmt.{decimal}
 use Rattle.region_table.specs.Program.{ProgramParts, tasks_of}
-use Rattle.std.specs.List.{All}
+use Rattle.std.specs.List.{All, slice_range}
 use Rattle.std.specs.Option.{is_some}
 use Rattle.text_pieces.specs.Pieces.{newline}
 use Rattle.text_pieces.specs.Field.{Stands, NoneStands}
@@ -18,13 +18,14 @@ use Rattle.explained_answer.specs.declared.line.AnswerLine.{AnswerLine}
 use Rattle.explained_answer.specs.declared.line.Count as count
 use Rattle.explained_answer.specs.declared.line.Count.{Count}
 use Rattle.explained_answer.specs.AnswerLines.{IsAnswerLine, answer_line}
-use Rattle.dn_base.specs.declared.ids.Grant.{Grant}
-use Rattle.dn_base.specs.declared.status.Outcome.{Outcome}
-use Rattle.dn_base.specs.declared.status.Outcome.TheVariants.{Stuck}
+use Rattle.rv_core.specs.declared.ending.TaskEnd.{TaskEnd}
 use Rattle.explained_answer.specs.declared.parsing.ReadLine.{ReadLine}
+use Rattle.explained_answer.specs.declared.several.OneAnswer.{OneAnswer}
 use Rattle.explained_answer.specs.declared.parsing.ReadAnswer.{ReadAnswer}
 use Rattle.explained_answer.specs.declared.parsing.ReadAnswer as read_answer
+use Rattle.explained_answer.specs.Ended.{named_on, outcome_text, ended_holder_text}
 use Rattle.explained_answer.specs.Holders.{answer_grants, holder_on}
+use Rattle.explained_answer.specs.Several.{answers_in}
 
 -- ---- what is said
 
@@ -63,35 +64,33 @@ unproven_at text task None = []
 abbrev pub unproven_text : List ℕ → Places → ℕ → ℕ → ℕ → List ℕ
 unproven_text text places phase core pc = unproven_at text (find (is_task_of phase core) places.tasks) (code_place_at places pc)
 
-unfoldable pub stuck_text : List ℕ
-stuck_text = codes "  If a task below trapped or is out of fuel, mend that first: it keeps the locks that it holds.\n"
-
--- what is said of the outcome: where tasks wait for locks, which task is to be looked at first
-abbrev pub outcome_text : Outcome → List ℕ
-outcome_text Stuck = stuck_text
-outcome_text _ = []
-
 -- what is said after a line: for a task that didn't finish, why; for an instruction, where it stands; otherwise the names of
--- words and locks. `holder` is the core that holds the lock for which the line's task waits, if the answer tells that
-abbrev pub sentences_behind : List ℕ → Located → Option ℕ → AnswerLine → List ℕ
-sentences_behind text l holder (line.TheVariants.Outcome o) = outcome_text o
-sentences_behind text l holder (line.TheVariants.Task t) = ending_text text l holder t
-sentences_behind text l holder (line.TheVariants.Word word value) = named_word l word
-sentences_behind text l holder (line.TheVariants.Grant g) = named_lock l g.lock.0
-sentences_behind text l holder (line.TheVariants.Unbounded phase core pc) = unproven_text text l.places phase core pc
-sentences_behind text l holder (line.TheVariants.Count c number) = []
-sentences_behind text l holder (line.TheVariants.Sum value) = []
-sentences_behind text l holder (line.TheVariants.Time ticks) = []
-sentences_behind text l holder (line.TheVariants.Link k) = []
-sentences_behind text l holder (line.TheVariants.Checked phases tasks words) = []
-sentences_behind text l holder (line.TheVariants.Fixed f) = []
+-- words and locks. `holder` is the core that holds the lock for which the line's task waits, if the answer tells that; `named` is
+-- the cause of an outcome, or the task of this core, if it ended
+abbrev pub sentences_behind : List ℕ → Located → Option ℕ → Option TaskEnd → AnswerLine → List ℕ
+sentences_behind text l holder named (line.TheVariants.Outcome o) = outcome_text l.places o named
+sentences_behind text l holder named (line.TheVariants.Task t) = ending_text text l holder t ++ ended_holder_text l.places named
+sentences_behind text l holder named (line.TheVariants.Word word value) = named_word l word
+sentences_behind text l holder named (line.TheVariants.Grant g) = named_lock l g.lock.0
+sentences_behind text l holder named (line.TheVariants.Unbounded phase core pc) = unproven_text text l.places phase core pc
+sentences_behind text l holder named (line.TheVariants.Count c number) = []
+sentences_behind text l holder named (line.TheVariants.Sum value) = []
+sentences_behind text l holder named (line.TheVariants.Time ticks) = []
+sentences_behind text l holder named (line.TheVariants.Link k) = []
+sentences_behind text l holder named (line.TheVariants.Checked phases tasks words) = []
+sentences_behind text l holder named (line.TheVariants.Fixed f) = []
 
--- a line of an answer with these grants, and what is said after it
-abbrev pub explained_line : List ℕ → Located → List Grant → AnswerLine → List ℕ
-explained_line text l grants x = answer_line x ++ sentences_behind text l (holder_on grants x) x
+-- a line of an answer that has these lines, and what is said after it
+abbrev pub explained_line : List ℕ → Located → List AnswerLine → AnswerLine → List ℕ
+explained_line text l lines x = answer_line x ++ sentences_behind text l (holder_on (answer_grants lines) x) (named_on lines x) x
 
+-- the lines of one answer, each with what is said after it
+abbrev pub answer_and_sentences : List ℕ → Located → List AnswerLine → List ℕ
+answer_and_sentences text l lines = flat_map (explained_line text l lines) lines
+
+-- the answers that some lines are, one after the other
 abbrev pub lines_and_sentences : List ℕ → Located → List AnswerLine → List ℕ
-lines_and_sentences text l lines = flat_map (explained_line text l (answer_grants lines)) lines
+lines_and_sentences text l lines = flat_map (answer_and_sentences text l) (answers_in lines)
 
 -- ---- which lines an answer may have
 
@@ -163,6 +162,13 @@ line_read r = r.line
 
 abbrev pub lines_in : List ReadLine → List AnswerLine
 lines_in read = map line_read read
+
+-- what the lines of one of several answers say, and that they are among the lines that were read
+abbrev pub lines_of_one : List ReadLine → OneAnswer → List AnswerLine
+lines_of_one read a = lines_in (slice_range read a.start a.end)
+
+abbrev pub HasLinesWithin : List ReadLine → OneAnswer → Type 0
+HasLinesWithin read a = (a.start ≤ a.end) × (a.end ≤ length read)
 
 -- the bytes of a line are those that say it
 abbrev pub IsWritten : ReadLine → Type 0

@@ -13,9 +13,9 @@ ghost use Rattle.explained_answer.specs.declared.explaining.Explained.TheVariant
 ghost use Rattle.explained_answer.specs.Lines.{IsLineOf, lines_and_sentences};
 ghost use Rattle.explained_answer.specs.Explained.{IsLocated, HasNoConflict, IsNoListing, IsListingExplained, IsConflictExplained, IsTraceExplained, IsRunExplained, AreAllExplained, IsExplained};
 
-use crate::lines::explained_lines;
 use crate::parsing::{ReadAnswer, read_answer};
 use crate::refusals::{explained_conflict, explained_fault};
+use crate::several::explained_lines;
 use crate::wholes::{explained_listing, explained_trace};
 use dn_base::{MOST_OF_TEXT, Memory, Sequence};
 use effect_checker::first_fault;

@@ -1,6 +1,9 @@
 //! An answer explained: each of its lines, followed by sentences on the place in the text that the line concerns.
 #![tactic(auto)]
 
+mod cause_laws;
+mod causes;
+mod ended;
 mod explaining;
 mod fronts;
 mod holders;
@@ -14,6 +17,7 @@ mod numbers;
 mod parsing;
 mod programs;
 mod refusals;
+mod several;
 mod taken;
 mod tasks;
 mod timing;
@@ -27,9 +31,12 @@ mod verdicts;
 mod wholes;
 mod words;
 
+pub use cause_laws::{a_cause_has_a_line_that_says_so, an_ended_holder_has_a_line_that_says_so};
 pub use explaining::{Explained, explain};
 pub use line::{AnswerLine, Count, FixedLine, Link};
-pub use line_laws::{a_line_is_read_in_one_way, printed_answers_are_lines};
+pub use line_laws::{
+    a_line_is_read_in_one_way, answers_are_explained_one_after_the_other, printed_answers_are_lines,
+};
 pub use line_parsing::read_line;
 pub use listing::take_listing;
 pub use taken::Taken;

@@ -1,17 +1,16 @@
 //! The lines of the answer of a run.
-ghost use Rattle.std.specs.Prelude.{◌≡◌, ◌++◌, All, OnOk, IfOk};
+ghost use Rattle.std.specs.Prelude.{◌≡◌, ◌++◌, OnOk};
 ghost use Rattle.sentences.specs.Told.{AreTold};
 ghost use Rattle.sentences.specs.Quotes.{AreSpans};
 ghost use Rattle.explained_answer.specs.AnswerLines.{answer_line};
-ghost use Rattle.explained_answer.specs.Lines.{named_word, named_lock, which_line, declared_there, task_there, the_instruction, stands_there, instruction_there, unproven_text, stuck_text, outcome_text, sentences_behind, lines_and_sentences, IsLineOf, IsWritten, lines_in};
+ghost use Rattle.explained_answer.specs.Lines.{named_word, named_lock, which_line, declared_there, task_there, the_instruction, stands_there, instruction_there, unproven_text, sentences_behind};
 
 use crate::AnswerLine;
-use crate::holders::{holder_on, last_grants};
-use crate::parsing::ReadLine;
-use dn_base::{Memory, Outcome};
-use sentences::{ToldEffects, code_place_at, line_spans, push_ending, push_line, told_effects};
+use crate::causes::{push_ended_holder, push_outcome};
+use dn_base::Memory;
+use rv_core::TaskEnd;
+use sentences::{ToldEffects, code_place_at, push_ending, push_line};
 use src_text::Span;
-use std::alloc::Global;
 use text_pieces::{push, push_decimal};
 use text_places::{CodePlace, Located, Places, TaskPlace, push_code_place, push_lock, push_word};
 
@@ -122,27 +121,8 @@ fn push_unproven(
     }
 }
 
-#[tactic(auto, unfolding(crate::specs::Lines::stuck_text))]
-fn push_stuck(out: &mut Vec<u8>) -> Result<(), Memory>
-    ensures { OnOk result (out.new.items ≡ out.old.items ++ stuck_text) }
-{
-    push(
-        out,
-        b"  If a task below trapped or is out of fuel, mend that first: it keeps the locks that it holds.\n",
-    )
-}
-
-/// Adds what is said of the outcome.
-fn push_outcome(out: &mut Vec<u8>, outcome: Outcome) -> Result<(), Memory>
-    ensures { OnOk result (out.new.items ≡ out.old.items ++ outcome_text outcome) }
-{
-    match outcome {
-        Outcome::Stuck => push_stuck(out),
-        Outcome::Done | Outcome::Trapped | Outcome::Fuel => Ok(()),
-    }
-}
-
-/// Adds what is said after a line of an answer. `holder` is the core that holds the lock for which the line's task waits.
+/// Adds what is said after a line of an answer. `holder` is the core that holds the lock for which the line's task waits,
+/// and `named` the cause of an outcome, or the task of this core, if it ended.
 fn push_sentences<'a>(
     out: &mut Vec<u8>,
     text: &[u8],
@@ -151,14 +131,18 @@ fn push_sentences<'a>(
     located: &'a Located,
     line: AnswerLine,
     holder: Option<u32>,
+    named: Option<TaskEnd>,
 ) -> Result<(), Memory>
     requires spans { AreSpans text.now spans.now }
     requires effects { AreTold text.now effects.now }
-    ensures { OnOk result (out.new.items ≡ out.old.items ++ sentences_behind text.now located.now holder line) }
+    ensures { OnOk result (out.new.items ≡ out.old.items ++ sentences_behind text.now located.now holder named line) }
 {
     match line {
-        AnswerLine::Outcome(outcome) => push_outcome(out, outcome),
-        AnswerLine::Task(task) => push_ending(out, text, spans, effects, located, task, holder),
+        AnswerLine::Outcome(outcome) => push_outcome(out, &located.places, outcome, named),
+        AnswerLine::Task(task) => {
+            push_ending(out, text, spans, effects, located, task, holder)?;
+            push_ended_holder(out, &located.places, named)
+        }
         AnswerLine::Word { word, value: _ } => push_named_word(out, located, word),
         AnswerLine::Grant(grant) => push_named_lock(out, located, grant.lock.0),
         AnswerLine::Unbounded { phase, core, pc } => push_unproven(
@@ -179,7 +163,7 @@ fn push_sentences<'a>(
 }
 
 /// Adds a line, which is written so, and what is said of it.
-fn push_explained<'a>(
+pub(crate) fn push_explained<'a>(
     out: &mut Vec<u8>,
     text: &[u8],
     spans: &[Span],
@@ -188,44 +172,13 @@ fn push_explained<'a>(
     line: AnswerLine,
     written: &[u8],
     holder: Option<u32>,
+    named: Option<TaskEnd>,
 ) -> Result<(), Memory>
     requires spans { AreSpans text.now spans.now }
     requires effects { AreTold text.now effects.now }
     requires written { written.now ≡ answer_line line }
-    ensures { OnOk result (out.new.items ≡ out.old.items ++ (answer_line line ++ sentences_behind text.now located.now holder line)) }
+    ensures { OnOk result (out.new.items ≡ out.old.items ++ (answer_line line ++ sentences_behind text.now located.now holder named line)) }
 {
     push(out, written)?;
-    push_sentences(out, text, spans, effects, located, line, holder)
-}
-
-/// Explains the lines of an answer, one after the other.
-pub(crate) fn explained_lines<'a>(
-    alloc: Global,
-    text: &'a [u8],
-    located: &'a Located,
-    lines: &[ReadLine<'_>],
-) -> Result<Vec<u8>, Memory>
-    requires written { All IsWritten lines.now }
-    requires are { All (IsLineOf located.now) (lines_in lines.now) }
-    ensures { IfOk result (λ out. out.items ≡ lines_and_sentences text.now located.now (lines_in lines.now)) }
-{
-    let last = last_grants(alloc, located, lines)?;
-    let found = line_spans(alloc, text)?;
-    let spans = found.as_slice();
-    let effects = told_effects(alloc, text)?;
-    let mut out = Vec::new(alloc);
-    for read in lines {
-        let holder = holder_on(last.as_slice(), read.line);
-        push_explained(
-            &mut out,
-            text,
-            spans,
-            &effects,
-            located,
-            read.line,
-            read.written,
-            holder,
-        )?;
-    }
-    Ok(out)
+    push_sentences(out, text, spans, effects, located, line, holder, named)
 }
