@@ -130,7 +130,7 @@ def answers_are_explained_one_after_the_other():
     """Answers of runs in a row are explained as each is alone: a task that waits in one of them waits for the holder in that one."""
     text = "examples/crossed-locks.s"
     source = pathlib.Path(text).read_bytes()
-    asked = ([], ["--seed", "1"], ["--seed", "6"], ["--mode", "flat"], ["--mode", "work"], ["--seed", "1"])
+    asked = ([], ["--seed", "1"], ["--seed", "6"], ["--mode", "flat"], ["--mode", "time"], ["--seed", "1"])
     answers = [run(programs("denovo")[0] + words, source).stdout for words in asked]
     alone = [run(programs("explain")[0] + [text], answer).stdout for answer in answers]
     for order in (answers, answers[::-1]):
