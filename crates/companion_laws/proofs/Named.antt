@@ -24,6 +24,7 @@ use Rattle.explained_answer.proofs.Printed.{ending-is, run-is}
 use Rattle.explained_answer.specs.declared.explaining.Explained.{Explained}
 use Rattle.explained_answer.specs.declared.explaining.Explained.TheVariants.{Text}
 use Rattle.explained_answer.specs.Holders.{grant_on, answer_grants}
+use Rattle.explained_answer.specs.RunAgain.{stops_told}
 use Rattle.explained_answer.specs.Lines.{IsLineOf, explained_line}
 use Rattle.explained_answer.specs.Explained.{IsLocated, HasNoConflict, IsExplained}
 use Rattle.explained_answer.proofs.AllTaken.{all-taken}
@@ -74,7 +75,7 @@ run-grants gs counts =
 pub report-explained : (text : List ℕ) (l : Located) (machine : Shape) (fuel : ℕ) (r : RunRecord) (e : Explained) → IsLocated text l → HasNoConflict l.program → fuel ≤ 32768
     → IsRunOf l.program machine fuel r → IsExplained text (reported r) e → IsReportExplained text l r e
 report-explained text l machine fuel r e at' none most is h =
-    record { lines = xs ++ ys; are = same; said = all-taken text (reported r) l at' (xs ++ ys) all same none e h ∙ ap (λ (gs : List Grant). Text (flat_map (explained_line text l gs) (xs ++ ys))) grants }
+    record { lines = xs ++ ys; are = same; said = all-taken text (reported r) l at' (xs ++ ys) all same none e h ∙ ap (λ (gs : List Grant). Text (flat_map (explained_line text l (stops_told l.program (xs ++ ys)) gs) (xs ++ ys))) grants }
   where
     xs : List AnswerLine
     xs = ending_lines (ending_seen is.flat.end'.ending)

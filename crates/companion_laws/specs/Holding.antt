@@ -15,6 +15,7 @@ use Rattle.explained_answer.specs.AnswerLines.{answer_line}
 use Rattle.explained_answer.specs.declared.explaining.Explained.{Explained}
 use Rattle.explained_answer.specs.declared.explaining.Explained.TheVariants.{Text}
 use Rattle.explained_answer.specs.Holders.{holder_of}
+use Rattle.explained_answer.specs.RunAgain.{stops_told}
 use Rattle.explained_answer.specs.Lines.{explained_line}
 
 -- after these grants the core's task of the phase, which is the current one, holds the lock
@@ -33,8 +34,8 @@ pub record HasHolder (P : ProgramParts) (fuel : ℕ) (grants : List Grant) (phas
   pub told : holder_of grants phase lock ≡ Some core
   pub holds : HoldsLock P fuel grants phase core lock
 
--- a reported run was explained: after each of its lines comes what the grants of the run say of it
+-- a reported run was explained: after each of its lines comes what the run and its grants say of it
 pub record IsReportExplained (text : List ℕ) (l : Located) (r : RunRecord) (e : Explained) : Type 0 where
   pub lines : List AnswerLine
   pub are : reported r ≡ flat_map answer_line lines
-  pub said : e ≡ Text (flat_map (explained_line text l r.grants) lines)
+  pub said : e ≡ Text (flat_map (explained_line text l (stops_told l.program lines) r.grants) lines)

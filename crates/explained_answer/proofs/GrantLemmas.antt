@@ -11,6 +11,8 @@ use Rattle.explained_answer.specs.declared.line.AnswerLine as line
 use Rattle.explained_answer.specs.declared.parsing.ReadLine.{ReadLine}
 use Rattle.explained_answer.specs.AnswerLines.{answer_line}
 use Rattle.explained_answer.specs.Holders.{is_of_lock, last_grant, AreLastGrants, grant_on, answer_grants, holder_on, with_last_grant}
+use Rattle.sentences.specs.declared.stopping.Stop.{Stop}
+use Rattle.explained_answer.specs.RunAgain.{pc_on}
 use Rattle.explained_answer.specs.Lines.{has_task, has_named_lock, IsLineOf, line_read, lines_in, sentences_behind, explained_line}
 
 -- a grant of another lock is passed over, and one of the lock is its last
@@ -104,13 +106,15 @@ more-grants l read table after i d are within room so_far note =
     )
 
 -- one more line explained
-pub more-explained : (text : List ℕ) (l : Located) (read : List ReadLine) (table : List (Option Grant)) (i : ℕ) (d : ReadLine) (before after : List ℕ) (holder : Option ℕ)
-    → i < length read → ((grants : List Grant) → AreLastGrants grants table → holder ≡ holder_on grants (get_or read i d).line)
-    → AreLastGrants (answer_grants (lines_in read)) table → before ≡ flat_map (explained_line text l (answer_grants (lines_in read))) (lines_in (take i read))
-    → after ≡ before ++ (answer_line (get_or read i d).line ++ sentences_behind text l holder (get_or read i d).line)
-    → after ≡ flat_map (explained_line text l (answer_grants (lines_in read))) (lines_in (take (i + 1) read))
-more-explained text l read table i d before after holder within tells are so_far said =
+pub more-explained : (text : List ℕ) (l : Located) (read : List ReadLine) (stops told : List Stop) (table : List (Option Grant)) (i : ℕ) (d : ReadLine) (before after : List ℕ) (pc holder : Option ℕ)
+    → i < length read → stops ≡ told → pc ≡ pc_on stops (get_or read i d).line → ((grants : List Grant) → AreLastGrants grants table → holder ≡ holder_on grants (get_or read i d).line)
+    → AreLastGrants (answer_grants (lines_in read)) table → before ≡ flat_map (explained_line text l told (answer_grants (lines_in read))) (lines_in (take i read))
+    → after ≡ before ++ (answer_line (get_or read i d).line ++ sentences_behind text l pc holder (get_or read i d).line)
+    → after ≡ flat_map (explained_line text l told (answer_grants (lines_in read))) (lines_in (take (i + 1) read))
+more-explained text l read stops told table i d before after pc holder within same goes tells are so_far said =
     let gs = answer_grants (lines_in read) in
     let x = (get_or read i d).line in
-    said ∙ ap (λ (h : Option ℕ). before ++ (answer_line x ++ sentences_behind text l h x)) (tells gs are)
-    ∙ ap (λ (bs : List ℕ). bs ++ explained_line text l gs x) so_far ∙ sym (flat-more (explained_line text l gs) read i d within)
+    let at : pc ≡ pc_on told x = goes ∙ ap (λ (ss : List Stop). pc_on ss x) same in
+    said ∙ ap (λ (p : Option ℕ). before ++ (answer_line x ++ sentences_behind text l p holder x)) at
+    ∙ ap (λ (h : Option ℕ). before ++ (answer_line x ++ sentences_behind text l (pc_on told x) h x)) (tells gs are)
+    ∙ ap (λ (bs : List ℕ). bs ++ explained_line text l told gs x) so_far ∙ sym (flat-more (explained_line text l told gs) read i d within)

@@ -6,5 +6,6 @@ pub mod Holders
 pub mod Lines
 pub mod Listing
 pub mod Parts
+pub mod RunAgain
 pub mod Trace
 pub mod Verdicts

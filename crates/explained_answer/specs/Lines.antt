@@ -24,6 +24,8 @@ use Rattle.dn_base.specs.declared.status.Outcome.TheVariants.{Stuck}
 use Rattle.explained_answer.specs.declared.parsing.ReadLine.{ReadLine}
 use Rattle.explained_answer.specs.declared.parsing.ReadAnswer.{ReadAnswer}
 use Rattle.explained_answer.specs.declared.parsing.ReadAnswer as read_answer
+use Rattle.sentences.specs.declared.stopping.Stop.{Stop}
+use Rattle.explained_answer.specs.RunAgain.{stops_told, pc_on}
 use Rattle.explained_answer.specs.Holders.{answer_grants, holder_on}
 
 -- ---- what is said
@@ -72,26 +74,27 @@ outcome_text Stuck = stuck_text
 outcome_text _ = []
 
 -- what is said after a line: for a task that didn't finish, why; for an instruction, where it stands; otherwise the names of
--- words and locks. `holder` is the core that holds the lock for which the line's task waits, if the answer tells that
-abbrev pub sentences_behind : List ℕ → Located → Option ℕ → AnswerLine → List ℕ
-sentences_behind text l holder (line.TheVariants.Outcome o) = outcome_text o
-sentences_behind text l holder (line.TheVariants.Task t) = ending_text text l holder t
-sentences_behind text l holder (line.TheVariants.Word word value) = named_word l word
-sentences_behind text l holder (line.TheVariants.Grant g) = named_lock l g.lock.0
-sentences_behind text l holder (line.TheVariants.Unbounded phase core pc) = unproven_text text l.places phase core pc
-sentences_behind text l holder (line.TheVariants.Count c number) = []
-sentences_behind text l holder (line.TheVariants.Sum value) = []
-sentences_behind text l holder (line.TheVariants.Time ticks) = []
-sentences_behind text l holder (line.TheVariants.Link k) = []
-sentences_behind text l holder (line.TheVariants.Checked phases tasks words) = []
-sentences_behind text l holder (line.TheVariants.Fixed f) = []
+-- words and locks. `pc` is the address of the next instruction of the line's task, if that is known, and `holder` the core that holds
+-- the lock for which it waits, if the answer tells that
+abbrev pub sentences_behind : List ℕ → Located → Option ℕ → Option ℕ → AnswerLine → List ℕ
+sentences_behind text l pc holder (line.TheVariants.Outcome o) = outcome_text o
+sentences_behind text l pc holder (line.TheVariants.Task t) = ending_text text l pc holder t
+sentences_behind text l pc holder (line.TheVariants.Word word value) = named_word l word
+sentences_behind text l pc holder (line.TheVariants.Grant g) = named_lock l g.lock.0
+sentences_behind text l pc holder (line.TheVariants.Unbounded phase core at) = unproven_text text l.places phase core at
+sentences_behind text l pc holder (line.TheVariants.Count c number) = []
+sentences_behind text l pc holder (line.TheVariants.Sum value) = []
+sentences_behind text l pc holder (line.TheVariants.Time ticks) = []
+sentences_behind text l pc holder (line.TheVariants.Link k) = []
+sentences_behind text l pc holder (line.TheVariants.Checked phases tasks words) = []
+sentences_behind text l pc holder (line.TheVariants.Fixed f) = []
 
--- a line of an answer with these grants, and what is said after it
-abbrev pub explained_line : List ℕ → Located → List Grant → AnswerLine → List ℕ
-explained_line text l grants x = answer_line x ++ sentences_behind text l (holder_on grants x) x
+-- a line of an answer whose tasks stand there, with these grants, and what is said after it
+abbrev pub explained_line : List ℕ → Located → List Stop → List Grant → AnswerLine → List ℕ
+explained_line text l stops grants x = answer_line x ++ sentences_behind text l (pc_on stops x) (holder_on grants x) x
 
 abbrev pub lines_and_sentences : List ℕ → Located → List AnswerLine → List ℕ
-lines_and_sentences text l lines = flat_map (explained_line text l (answer_grants lines)) lines
+lines_and_sentences text l lines = flat_map (explained_line text l (stops_told l.program lines) (answer_grants lines)) lines
 
 -- ---- which lines an answer may have
 

@@ -2,12 +2,15 @@
 ghost use Rattle.std.specs.Prelude.{◌≡◌, ◌++◌, All, OnOk, IfOk};
 ghost use Rattle.sentences.specs.Told.{AreTold};
 ghost use Rattle.sentences.specs.Quotes.{AreSpans};
+ghost use Rattle.effect_checker.specs.Checked.{IsChecked};
+ghost use Rattle.explained_answer.specs.Explained.{IsLocated};
 ghost use Rattle.explained_answer.specs.AnswerLines.{answer_line};
 ghost use Rattle.explained_answer.specs.Lines.{named_word, named_lock, which_line, declared_there, task_there, the_instruction, stands_there, instruction_there, unproven_text, stuck_text, outcome_text, sentences_behind, lines_and_sentences, IsLineOf, IsWritten, lines_in};
 
 use crate::AnswerLine;
 use crate::holders::{holder_on, last_grants};
 use crate::parsing::ReadLine;
+use crate::run_again::{pc_on, stops_told};
 use dn_base::{Memory, Outcome};
 use sentences::{ToldEffects, code_place_at, line_spans, push_ending, push_line, told_effects};
 use src_text::Span;
@@ -142,7 +145,8 @@ fn push_outcome(out: &mut Vec<u8>, outcome: Outcome) -> Result<(), Memory>
     }
 }
 
-/// Adds what is said after a line of an answer. `holder` is the core that holds the lock for which the line's task waits.
+/// Adds what is said after a line of an answer. `pc` is the address of the next instruction of the line's task, and `holder` the core
+/// that holds the lock for which it waits.
 fn push_sentences<'a>(
     out: &mut Vec<u8>,
     text: &[u8],
@@ -150,25 +154,25 @@ fn push_sentences<'a>(
     effects: &ToldEffects<'a>,
     located: &'a Located,
     line: AnswerLine,
+    pc: Option<u32>,
     holder: Option<u32>,
 ) -> Result<(), Memory>
     requires spans { AreSpans text.now spans.now }
     requires effects { AreTold text.now effects.now }
-    ensures { OnOk result (out.new.items ≡ out.old.items ++ sentences_behind text.now located.now holder line) }
+    ensures { OnOk result (out.new.items ≡ out.old.items ++ sentences_behind text.now located.now pc holder line) }
 {
     match line {
         AnswerLine::Outcome(outcome) => push_outcome(out, outcome),
-        AnswerLine::Task(task) => push_ending(out, text, spans, effects, located, task, holder),
+        AnswerLine::Task(task) => {
+            push_ending(out, text, spans, effects, located, task, pc, holder)
+        },
         AnswerLine::Word { word, value: _ } => push_named_word(out, located, word),
         AnswerLine::Grant(grant) => push_named_lock(out, located, grant.lock.0),
-        AnswerLine::Unbounded { phase, core, pc } => push_unproven(
-            out,
-            text,
-            spans,
-            &located.places,
-            (phase, core),
-            pc,
-        ),
+        AnswerLine::Unbounded {
+            phase,
+            core,
+            pc: at,
+        } => push_unproven(out, text, spans, &located.places, (phase, core), at),
         AnswerLine::Count { .. }
         | AnswerLine::Sum { .. }
         | AnswerLine::Time { .. }
@@ -187,15 +191,16 @@ fn push_explained<'a>(
     located: &'a Located,
     line: AnswerLine,
     written: &[u8],
+    pc: Option<u32>,
     holder: Option<u32>,
 ) -> Result<(), Memory>
     requires spans { AreSpans text.now spans.now }
     requires effects { AreTold text.now effects.now }
     requires written { written.now ≡ answer_line line }
-    ensures { OnOk result (out.new.items ≡ out.old.items ++ (answer_line line ++ sentences_behind text.now located.now holder line)) }
+    ensures { OnOk result (out.new.items ≡ out.old.items ++ (answer_line line ++ sentences_behind text.now located.now pc holder line)) }
 {
     push(out, written)?;
-    push_sentences(out, text, spans, effects, located, line, holder)
+    push_sentences(out, text, spans, effects, located, line, pc, holder)
 }
 
 /// Explains the lines of an answer, one after the other.
@@ -205,17 +210,21 @@ pub(crate) fn explained_lines<'a>(
     located: &'a Located,
     lines: &[ReadLine<'_>],
 ) -> Result<Vec<u8>, Memory>
+    requires located { IsLocated text.now located.now }
+    requires checked { IsChecked located.now.program }
     requires written { All IsWritten lines.now }
     requires are { All (IsLineOf located.now) (lines_in lines.now) }
     ensures { IfOk result (λ out. out.items ≡ lines_and_sentences text.now located.now (lines_in lines.now)) }
 {
     let last = last_grants(alloc, located, lines)?;
+    let stops = stops_told(alloc, text, lines)?;
     let found = line_spans(alloc, text)?;
     let spans = found.as_slice();
     let effects = told_effects(alloc, text)?;
     let mut out = Vec::new(alloc);
     for read in lines {
         let holder = holder_on(last.as_slice(), read.line);
+        let pc = pc_on(stops.as_slice(), read.line);
         push_explained(
             &mut out,
             text,
@@ -224,6 +233,7 @@ pub(crate) fn explained_lines<'a>(
             located,
             read.line,
             read.written,
+            pc,
             holder,
         )?;
     }
