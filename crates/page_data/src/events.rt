@@ -112,6 +112,7 @@ fn make_row(
 }
 
 /// Makes events, which are enabled one after the other, and adds their rows.
+#[tactic(auto, using(crate::proofs::Runs::same_setting))]
 fn make_rows(
     alloc: Global,
     out: &mut Vec<u8>,
@@ -120,7 +121,8 @@ fn make_rows(
 ) -> Result<(), Memory>
     requires run { IsRun machine.old.state events.now }
     requires few { machine.old.made + length events.now ≤ 4000000000 }
-    ensures { OnOk result (out.new.items ≡ out.old.items ++ event_rows true machine.old.state events.now) }
+    ensures rows { OnOk result (out.new.items ≡ out.old.items ++ event_rows true machine.old.state events.now) }
+    ensures setting { OnOk result (machine.new.state.setting ≡ machine.old.state.setting) }
 {
     let mut first = true;
     for event in events {
@@ -139,7 +141,8 @@ fn push_event_list(
 ) -> Result<(), Memory>
     requires run { IsRun machine.old.state events.now }
     requires few { machine.old.made + length events.now ≤ 4000000000 }
-    ensures { OnOk result (out.new.items ≡ out.old.items ++ event_list machine.old.state events.now) }
+    ensures list { OnOk result (out.new.items ≡ out.old.items ++ event_list machine.old.state events.now) }
+    ensures setting { OnOk result (machine.new.state.setting ≡ machine.old.state.setting) }
 {
     push(out, b"[")?;
     make_rows(alloc, out, machine, events)?;
@@ -156,7 +159,8 @@ pub(crate) fn push_events(
 ) -> Result<(), Memory>
     requires run { IsRun machine.old.state events.now }
     requires few { machine.old.made + length events.now ≤ 4000000000 }
-    ensures { OnOk result (out.new.items ≡ out.old.items ++ events_part machine.old.state events.now) }
+    ensures part { OnOk result (out.new.items ≡ out.old.items ++ events_part machine.old.state events.now) }
+    ensures setting { OnOk result (machine.new.state.setting ≡ machine.old.state.setting) }
 {
     push(out, b",\"events\":")?;
     push_event_list(alloc, out, machine, events)
@@ -166,11 +170,13 @@ pub(crate) fn push_events(
 ///
 /// # Errors
 /// `Memory` where there is no room for the messages.
+#[tactic(auto, using(crate::proofs::Runs::same_setting))]
 pub(crate) fn pass(machine: &mut Machine, events: &[Event]) -> Result<(), Memory>
     requires run { IsRun machine.old.state events.now }
     requires few { machine.old.made + length events.now ≤ 4000000000 }
     ensures state { OnOk result (machine.new.state ≡ after machine.old.state events.now) }
     ensures made { OnOk result (machine.new.made ≡ machine.old.made + length events.now) }
+    ensures setting { OnOk result (machine.new.state.setting ≡ machine.old.state.setting) }
 {
     for event in events {
         machine.step(*event)?;

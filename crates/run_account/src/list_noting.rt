@@ -90,6 +90,7 @@ impl Listing {
         ensures leads { result ≡ Ok true → self.new ≡ count_of_run machine.old.state self.old events.now }
         ensures comes { result ≡ Ok true → IsRun machine.old.state events.now }
         ensures none { result ≡ Ok false → IsRun machine.old.state events.now → ⊥ }
+        ensures setting { OnOk result (machine.new.state.setting ≡ machine.old.state.setting) }
     {
         for event in events {
             // it is noted before it comes, with the state before it
@@ -104,11 +105,13 @@ impl Listing {
     }
 }
 
-/// The events that come on a machine beside lists, in these groups; None if one of them are not enabled.
+/// The events that come on a machine that is lent, beside lists of sharers, in these groups; None if one of them is not enabled.
+/// Fewer than 4,000,000,000 events must have come on the machine after them. Afterwards it is as the events leave it, up to the
+/// first that is not enabled; `Machine::reset` sets it back.
 ///
 /// # Errors
 /// `Memory` where there is no room.
-fn listing_on(
+pub fn listing_of(
     alloc: Global,
     machine: &mut Machine,
     events: &[Event],
@@ -118,6 +121,7 @@ fn listing_on(
     ensures some { IfOk result (λ came. IfSome came (λ listing. listing ≡ count_of_run machine.old.state (nothing_listed machine.old.state.setting by) events.now)) }
     ensures comes { IfOk result (λ came. IfSome came (λ listing. IsRun machine.old.state events.now)) }
     ensures none { IfOk result (λ came. IfNone came (IsRun machine.old.state events.now → ⊥)) }
+    ensures setting { OnOk result (machine.new.state.setting ≡ machine.old.state.setting) }
 {
     let mut listing = Listing::new(alloc, machine, by)?;
     if listing.note_all(machine, events)? {
@@ -125,24 +129,4 @@ fn listing_on(
     } else {
         Ok(None)
     }
-}
-
-/// The events that come on a machine beside lists of sharers, in these groups; None if one of them are not enabled. Fewer than
-/// 4,000,000,000 events must have come on the machine after them.
-///
-/// # Errors
-/// `Memory` where there is no room.
-pub fn listing_of(
-    alloc: Global,
-    machine: Machine,
-    events: &[Event],
-    by: Grouping,
-) -> Result<Option<Listing>, Memory>
-    requires few { machine.made + length events.now ≤ 4000000000 }
-    ensures some { IfOk result (λ came. IfSome came (λ listing. listing ≡ count_of_run machine.state (nothing_listed machine.state.setting by) events.now)) }
-    ensures comes { IfOk result (λ came. IfSome came (λ listing. IsRun machine.state events.now)) }
-    ensures none { IfOk result (λ came. IfNone came (IsRun machine.state events.now → ⊥)) }
-{
-    let mut machine = machine;
-    listing_on(alloc, &mut machine, events, by)
 }

@@ -2,6 +2,7 @@ pub mod Commands
 pub mod Counted
 pub mod ForReaders
 pub mod Kept
+pub mod Machines
 pub mod Paged
 pub mod Pictures
 pub mod Shown
