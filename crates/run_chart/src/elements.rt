@@ -36,7 +36,7 @@ pub(crate) struct Point {
 }
 
 /// Adds an attribute.
-#[tactic(auto, unfolding(crate::specs::Marks::attribute))]
+#[tactic(auto, unfolding(crate::specs::Elements::attribute))]
 pub(crate) fn push_attribute(out: &mut Vec<u8>, name: &[u8], number: u64) -> Result<(), Memory>
     ensures { OnOk result (out.new.items ≡ out.old.items ++ attribute name.now number) }
 {
@@ -53,7 +53,7 @@ pub(crate) fn push_attribute(out: &mut Vec<u8>, name: &[u8], number: u64) -> Res
 }
 
 /// Begins the name of a class.
-#[tactic(auto, unfolding(crate::specs::Marks::class_begin))]
+#[tactic(auto, unfolding(crate::specs::Elements::class_begin))]
 fn push_class_begin(out: &mut Vec<u8>) -> Result<(), Memory>
     ensures { OnOk result (out.new.items ≡ out.old.items ++ class_begin) }
 {
@@ -61,7 +61,7 @@ fn push_class_begin(out: &mut Vec<u8>) -> Result<(), Memory>
 }
 
 /// Begins an element of a class.
-#[tactic(auto, unfolding(crate::specs::Marks::element))]
+#[tactic(auto, unfolding(crate::specs::Elements::element))]
 fn push_element(out: &mut Vec<u8>, name: &[u8], class: &[u8]) -> Result<(), Memory>
     ensures { OnOk result (out.new.items ≡ out.old.items ++ element name.now class.now) }
 {
@@ -72,7 +72,7 @@ fn push_element(out: &mut Vec<u8>, name: &[u8], class: &[u8]) -> Result<(), Memo
     push(out, b"'")
 }
 
-#[tactic(auto, unfolding(crate::specs::Marks::element_end))]
+#[tactic(auto, unfolding(crate::specs::Elements::element_end))]
 fn push_element_end(out: &mut Vec<u8>) -> Result<(), Memory>
     ensures { OnOk result (out.new.items ≡ out.old.items ++ element_end) }
 {
@@ -80,7 +80,7 @@ fn push_element_end(out: &mut Vec<u8>) -> Result<(), Memory>
 }
 
 /// Adds a circle about a point.
-#[tactic(auto, unfolding(crate::specs::Marks::circle))]
+#[tactic(auto, unfolding(crate::specs::Elements::circle))]
 pub(crate) fn push_circle(
     out: &mut Vec<u8>,
     class: &[u8],
@@ -97,7 +97,7 @@ pub(crate) fn push_circle(
 }
 
 /// Adds a rectangle at the left edge, from its upper left corner.
-#[tactic(auto, unfolding(crate::specs::Marks::rectangle))]
+#[tactic(auto, unfolding(crate::specs::Elements::rectangle))]
 pub(crate) fn push_rectangle(
     out: &mut Vec<u8>,
     class: &[u8],
@@ -116,7 +116,7 @@ pub(crate) fn push_rectangle(
 }
 
 /// Begins a path of a class at a point.
-#[tactic(auto, unfolding(crate::specs::Marks::path_begin))]
+#[tactic(auto, unfolding(crate::specs::Elements::path_begin))]
 fn push_path_begin(out: &mut Vec<u8>, class: &[u8], from: Point) -> Result<(), Memory>
     ensures { OnOk result (out.new.items ≡ out.old.items ++ path_begin class.now from.x from.y) }
 {
@@ -128,7 +128,7 @@ fn push_path_begin(out: &mut Vec<u8>, class: &[u8], from: Point) -> Result<(), M
 }
 
 /// Adds a line straight down to a height.
-#[tactic(auto, unfolding(crate::specs::Marks::path_end, crate::specs::Marks::upright))]
+#[tactic(auto, unfolding(crate::specs::Elements::path_end, crate::specs::Elements::upright))]
 pub(crate) fn push_upright(
     out: &mut Vec<u8>,
     class: &[u8],
@@ -142,7 +142,7 @@ pub(crate) fn push_upright(
 }
 
 /// Adds a line across, from the left edge on.
-#[tactic(auto, unfolding(crate::specs::Marks::level, crate::specs::Marks::path_end))]
+#[tactic(auto, unfolding(crate::specs::Elements::level, crate::specs::Elements::path_end))]
 pub(crate) fn push_level(out: &mut Vec<u8>, class: &[u8], y: u64, right: u64) -> Result<(), Memory>
     ensures { OnOk result (out.new.items ≡ out.old.items ++ level class.now y right) }
 {
@@ -151,7 +151,7 @@ pub(crate) fn push_level(out: &mut Vec<u8>, class: &[u8], y: u64, right: u64) ->
 }
 
 /// Adds a line from one point to another.
-#[tactic(auto, unfolding(crate::specs::Marks::line_to, crate::specs::Marks::path_end))]
+#[tactic(auto, unfolding(crate::specs::Elements::line_to, crate::specs::Elements::path_end))]
 pub(crate) fn push_line(
     out: &mut Vec<u8>,
     class: &[u8],
@@ -173,7 +173,7 @@ pub(crate) fn push_line(
     )
 }
 
-#[tactic(auto, unfolding(crate::specs::Marks::path_end))]
+#[tactic(auto, unfolding(crate::specs::Elements::path_end))]
 fn push_path_end(out: &mut Vec<u8>) -> Result<(), Memory>
     ensures { OnOk result (out.new.items ≡ out.old.items ++ path_end) }
 {
@@ -181,7 +181,7 @@ fn push_path_end(out: &mut Vec<u8>) -> Result<(), Memory>
 }
 
 /// Adds the head of an arrow that comes from the left and ends at a point.
-#[tactic(auto, unfolding(crate::specs::Marks::head_from_left))]
+#[tactic(auto, unfolding(crate::specs::Elements::head_from_left))]
 pub(crate) fn push_head_from_left(out: &mut Vec<u8>, at: Point) -> Result<(), Memory>
     ensures { OnOk result (out.new.items ≡ out.old.items ++ head_from_left at.x at.y) }
 {
@@ -191,7 +191,7 @@ pub(crate) fn push_head_from_left(out: &mut Vec<u8>, at: Point) -> Result<(), Me
 }
 
 /// The same of one that comes from the right.
-#[tactic(auto, unfolding(crate::specs::Marks::head_from_right))]
+#[tactic(auto, unfolding(crate::specs::Elements::head_from_right))]
 pub(crate) fn push_head_from_right(out: &mut Vec<u8>, at: Point) -> Result<(), Memory>
     ensures { OnOk result (out.new.items ≡ out.old.items ++ head_from_right at.x at.y) }
 {
@@ -201,7 +201,7 @@ pub(crate) fn push_head_from_right(out: &mut Vec<u8>, at: Point) -> Result<(), M
 }
 
 /// Begins words of a class at a point.
-#[tactic(auto, unfolding(crate::specs::Marks::attribute, crate::specs::Marks::words_begin))]
+#[tactic(auto, unfolding(crate::specs::Elements::attribute, crate::specs::Elements::words_begin))]
 pub(crate) fn push_words_begin(out: &mut Vec<u8>, class: &[u8], at: Point) -> Result<(), Memory>
     ensures { OnOk result (out.new.items ≡ out.old.items ++ words_begin class.now at.x at.y) }
 {
@@ -220,7 +220,7 @@ pub(crate) fn push_words_begin(out: &mut Vec<u8>, class: &[u8], at: Point) -> Re
 }
 
 /// Ends them.
-#[tactic(auto, unfolding(crate::specs::Marks::words_end))]
+#[tactic(auto, unfolding(crate::specs::Elements::words_end))]
 pub(crate) fn push_words_end(out: &mut Vec<u8>) -> Result<(), Memory>
     ensures { OnOk result (out.new.items ≡ out.old.items ++ words_end) }
 {

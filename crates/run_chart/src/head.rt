@@ -84,8 +84,8 @@ fn push_view_box(out: &mut Vec<u8>, width: u64, height: u64) -> Result<(), Memor
 fn push_sizes(out: &mut Vec<u8>, chart: &Chart) -> Result<(), Memory>
     ensures { OnOk result (out.new.items ≡ out.old.items ++ sizes chart.now) }
 {
-    push_attribute(out, b"width", chart.width())?;
-    push_attribute(out, b"height", chart.height())?;
+    push_attribute(out, b"width", chart.shown_width())?;
+    push_attribute(out, b"height", chart.shown_height())?;
     push_view_box(out, chart.width(), chart.height())
 }
 
@@ -195,7 +195,7 @@ fn push_band(out: &mut Vec<u8>, chart: &Chart, row: &ChartRow) -> Result<(), Mem
 }
 
 /// Adds the number of a phase at a point.
-#[tactic(auto, unfolding(crate::specs::Marks::attribute, crate::specs::Marks::words_begin, crate::specs::Marks::words_end, crate::specs::Labels::named))]
+#[tactic(auto, unfolding(crate::specs::Elements::attribute, crate::specs::Elements::words_begin, crate::specs::Elements::words_end, crate::specs::Labels::named))]
 fn push_phase_number(out: &mut Vec<u8>, at: Point, phase: PhaseId) -> Result<(), Memory>
     ensures { OnOk result (out.new.items ≡ out.old.items ++ words_at (codes "left denovo-number") at.x at.y (named (codes "phase") phase.0)) }
 {

@@ -1,11 +1,11 @@
 //! Where the columns and rows stand.
-ghost use Rattle.std.specs.Prelude.{◌≡◌, ◌≤◌, ◌&&◌, nat_lt, if◌then◌else◌};
+ghost use Rattle.std.specs.Prelude.{◌≡◌, ◌*◌, ◌≤◌, ◌&&◌, nat_lt, if◌then◌else◌};
 ghost use Rattle.run_chart.specs.Elements.{x_of, y_of};
-ghost use Rattle.run_chart.specs.Picture.{bottom, height, width};
+ghost use Rattle.run_chart.specs.Picture.{bottom, height, ninth, room, shown_height, shown_width, width};
 ghost use Rattle.run_chart.specs.Places.{column, is_shown, place_of, shown_below};
 
 use crate::elements::{Point, x_of, y_of};
-use crate::parts::{Chart, ChartRow};
+use crate::parts::{Chart, ChartRow, Fit};
 use message_net::Actor;
 
 /// How many banks there may be.
@@ -16,6 +16,19 @@ fn one_if(counts: bool) -> u64
     ensures most { result ≤ 1 }
 {
     if counts { 1 } else { 0 }
+}
+
+/// The least number of which 16 times is as wide and 9 times as high.
+fn ninth(wide: u64, high: u64) -> u64
+    requires wide { wide ≤ 1000000000000 }
+    requires high { high ≤ 1000000000000 }
+    ensures value { result ≡ ninth wide high }
+    ensures least { wide ≤ 16 * result }
+    ensures most { result ≤ 200000000000 }
+{
+    let columns = (wide + 15) / 16;
+    let rows = (high + 8) / 9;
+    if columns < rows { rows } else { columns }
 }
 
 impl Chart {
@@ -84,9 +97,9 @@ impl Chart {
         }
     }
 
-    /// The picture's width.
-    pub(crate) fn width(&self) -> u64
-        ensures value { result ≡ width self.now }
+    /// How wide the columns are, with room for words after the last of them.
+    fn room(&self) -> u64
+        ensures value { result ≡ room self.now }
         ensures least { 600 ≤ result }
         ensures most { result ≤ 566935685652 }
     {
@@ -101,10 +114,44 @@ impl Chart {
         y_of(self.lines)
     }
 
+    /// The picture's width.
+    pub(crate) fn width(&self) -> u64
+        ensures value { result ≡ width self.now }
+        ensures least { 600 ≤ result }
+    {
+        match self.fit {
+            Fit::Rows => self.room(),
+            Fit::Slide => 16 * ninth(self.room(), self.bottom() + 18),
+        }
+    }
+
     /// The picture's height.
     pub(crate) fn height(&self) -> u64
-        ensures value { result ≡ height self.now }
+        ensures { result ≡ height self.now }
     {
-        self.bottom() + 18
+        match self.fit {
+            Fit::Rows => self.bottom() + 18,
+            Fit::Slide => 9 * ninth(self.room(), self.bottom() + 18),
+        }
+    }
+
+    /// How wide the picture is shown where nothing else is said.
+    pub(crate) fn shown_width(&self) -> u64
+        ensures { result ≡ shown_width self.now self.now.fit }
+    {
+        match self.fit {
+            Fit::Rows => self.width(),
+            Fit::Slide => 1280,
+        }
+    }
+
+    /// How high.
+    pub(crate) fn shown_height(&self) -> u64
+        ensures { result ≡ shown_height self.now self.now.fit }
+    {
+        match self.fit {
+            Fit::Rows => self.height(),
+            Fit::Slide => 720,
+        }
     }
 }

@@ -158,7 +158,7 @@ pub(crate) fn push_leaving_arrows(
 }
 
 /// Adds the event's number, before its actor.
-#[tactic(auto, unfolding(crate::specs::Marks::attribute, crate::specs::Marks::words_begin))]
+#[tactic(auto, unfolding(crate::specs::Elements::attribute, crate::specs::Elements::words_begin))]
 fn push_number_begin(out: &mut Vec<u8>, row: &ChartRow) -> Result<(), Memory>
     ensures { OnOk result (out.new.items ≡ out.old.items ++ (words_begin (codes "number") 8 (y_of row.now.line + 4) ++ decimal row.now.event ++ space)) }
 {
@@ -295,7 +295,7 @@ fn push_row_ending(out: &mut Vec<u8>, at: Point, end: Option<End>) -> Result<(),
 }
 
 /// Adds a change.
-#[tactic(auto, unfolding(crate::specs::Marks::attribute, crate::specs::Picture::change_words))]
+#[tactic(auto, unfolding(crate::specs::Elements::attribute, crate::specs::Picture::change_words))]
 fn push_change(out: &mut Vec<u8>, text: &Located, x: u64, change: WordChange) -> Result<(), Memory>
     ensures { OnOk result (out.new.items ≡ out.old.items ++ change_words text.now x change) }
 {
