@@ -78,7 +78,7 @@ pub struct HallEnd {
 }
 
 /// The passes of all callers, each of them one pass of each turn.
-fn tied(
+fn tie(
     alloc: Global,
     mut banks: Vec<RowPass<BankActor>>,
     mut ports: Vec<RowPass<Port>>,
@@ -109,7 +109,7 @@ struct Apart {
 }
 
 /// The passes of the banks, of the ports and of the barrier controller, of all callers.
-fn untied(alloc: Global, mut passes: Vec<Pass>) -> Result<Apart, Memory>
+fn untie(alloc: Global, mut passes: Vec<Pass>) -> Result<Apart, Memory>
     ensures banks { IfOk result (λ all. all.banks.items ≡ map (λ p. p.banks) passes.items) }
     ensures ports { IfOk result (λ all. all.ports.items ≡ map (λ p. p.ports) passes.items) }
     ensures keeper { IfOk result (λ all. all.keeper.items ≡ map (λ p. p.keeper) passes.items) }
@@ -174,7 +174,7 @@ impl Hall {
         let (banks, bank_passes) = Row::start(alloc, banks, passes)?;
         let (ports, port_passes) = Row::start(alloc, ports, passes)?;
         let (keeper, keeper_passes) = Row::start(alloc, keepers, passes)?;
-        let all = tied(alloc, bank_passes, port_passes, keeper_passes)?;
+        let all = tie(alloc, bank_passes, port_passes, keeper_passes)?;
         Ok((
             Hall {
                 banks,
@@ -392,7 +392,7 @@ impl Hall {
             ports,
             keeper,
         } = self;
-        let callers = untied(alloc, passes)?;
+        let callers = untie(alloc, passes)?;
         let (banks, bank_calls) = banks.close(alloc, callers.banks)?;
         let (ports, port_calls) = ports.close(alloc, callers.ports)?;
         let (keepers, keeper_calls) = keeper.close(alloc, callers.keeper)?;

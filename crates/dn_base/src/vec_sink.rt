@@ -78,7 +78,7 @@ impl VecSink {
     }
 
     /// Counts a call. It is an error if the call is one of those that fail, which counts as a fault.
-    fn counted(&mut self) -> Result<(), Failed>
+    fn count_call(&mut self) -> Result<(), Failed>
         ensures counted { self.old.faults ≤ self.new.faults }
         ensures failed { IsErr result → Rose self.old.faults self.new.faults }
         ensures listed { IsErr result ↔ Contains self.old.fail_at self.old.calls }
@@ -137,7 +137,7 @@ impl Sink for VecSink {
         ensures err { OnErr result (self.new
             ≡ record self.old { calls = one_more self.old.calls; faults = raised self.old.faults }) }
     {
-        self.counted()?;
+        self.count_call()?;
         let left = self.room as usize - self.bytes.len();
         if left == 0 && !buf.is_empty() {
             self.faults = self.faults.saturating_add(1);
@@ -159,7 +159,7 @@ impl Sink for VecSink {
         ensures err { OnErr result (self.new
             ≡ record self.old { calls = one_more self.old.calls; faults = raised self.old.faults }) }
     {
-        self.counted()?;
+        self.count_call()?;
         self.flushed = true;
         Ok(())
     }

@@ -13,7 +13,7 @@ use crate::output::Output;
 use crate::reading::take_text;
 use dn_base::{Gate, Memory, Sink, Source, Status};
 use dn_machine::RunRecord;
-use program_outside::{EndStatus, Failure, unread};
+use program_outside::{EndStatus, Failure, end_without_text};
 use std::alloc::Global;
 use std::sync::Wait;
 use std::thread::Threads;
@@ -81,7 +81,7 @@ pub(crate) fn answer_alone<S: Source, K: Sink>(
 {
     match take_text(alloc, options, source) {
         Ok(text) => reply(sink, output_alone(alloc, options, text.as_slice())),
-        Err(error) => unread(error),
+        Err(error) => end_without_text(error),
     }
 }
 
@@ -107,6 +107,6 @@ pub(crate) fn answer_by_workers<R: Threads + Wait + Sync, S: Source, K: Sink, G:
             let output = output_by_workers(rt, alloc, options, text.as_slice(), gate);
             reply(sink, output)
         }
-        Err(error) => unread(error),
+        Err(error) => end_without_text(error),
     }
 }

@@ -28,7 +28,7 @@ fn order(a: &Stamped, b: &Stamped) -> Ordering
 }
 
 /// The entries of all logs, one log after the other.
-fn gathered(alloc: Global, logs: Vec<Vec<Stamped>>) -> Result<Vec<Stamped>, Memory>
+fn gather(alloc: Global, logs: Vec<Vec<Stamped>>) -> Result<Vec<Stamped>, Memory>
     ensures { IfOk result (λ entries. entries.items ≡ flat_map (λ log. log.items) logs.items) }
 {
     Ok(logs.into_iter().flatten().collect(alloc)?)
@@ -53,7 +53,7 @@ pub fn merge(alloc: Global, logs: Vec<Vec<Stamped>>) -> Result<Vec<Stamped>, Mem
     requires { AreLogs (map (λ log. log.items) logs.items) }
     ensures { IfOk result (λ merged. IsMerge (map (λ log. log.items) logs.items) merged.items) }
 {
-    let merged = in_order(gathered(alloc, logs)?)?;
+    let merged = in_order(gather(alloc, logs)?)?;
     Ok(merged)
 }
 

@@ -30,7 +30,7 @@ fn bucket(id: MailId) -> usize {
 }
 
 /// What a row has at an index, if it has anything there.
-fn told(row: &[Option<u32>], index: usize) -> Option<u32> {
+fn entry(row: &[Option<u32>], index: usize) -> Option<u32> {
     match row.get(index) {
         Some(place) => *place,
         None => None,
@@ -78,24 +78,24 @@ impl Places {
     pub(crate) fn find(&self, mails: &[Mail], id: MailId) -> Option<u32>
         ensures { IfSome result (λ place. (m : AMail) × (slice_get mails.now place ≡ Some m) × (m.id ≡ id)) }
     {
-        let mut next = told(self.first.as_slice(), bucket(id));
+        let mut next = entry(self.first.as_slice(), bucket(id));
         for _done in 0..mails.len() {
             let place = next?;
             let mail = mails.get(place as usize)?;
             if is_same(mail.id, id) {
                 return Some(place);
             }
-            next = told(self.behind.as_slice(), place as usize);
+            next = entry(self.behind.as_slice(), place as usize);
         }
         None
     }
 
     /// The place before this one in the chain of a bucket.
     fn before(&self, bucket: usize, place: u32) -> Option<u32> {
-        let mut next = told(self.first.as_slice(), bucket);
+        let mut next = entry(self.first.as_slice(), bucket);
         for _done in 0..self.behind.len() {
             let here = next?;
-            next = told(self.behind.as_slice(), here as usize);
+            next = entry(self.behind.as_slice(), here as usize);
             if next == Some(place) {
                 return Some(here);
             }
@@ -108,7 +108,7 @@ impl Places {
     #[inline(never)]
     pub(crate) fn note(&mut self, id: MailId, place: u32) {
         let bucket = bucket(id);
-        let behind = told(self.first.as_slice(), bucket);
+        let behind = entry(self.first.as_slice(), bucket);
         tell(&mut self.behind, place as usize, behind);
         tell(&mut self.first, bucket, Some(place));
     }
@@ -116,8 +116,8 @@ impl Places {
     /// The message with this id stands no longer at this place.
     fn forget(&mut self, id: MailId, place: u32) {
         let bucket = bucket(id);
-        let behind = told(self.behind.as_slice(), place as usize);
-        if told(self.first.as_slice(), bucket) == Some(place) {
+        let behind = entry(self.behind.as_slice(), place as usize);
+        if entry(self.first.as_slice(), bucket) == Some(place) {
             tell(&mut self.first, bucket, behind);
         } else if let Some(before) = self.before(bucket, place) {
             tell(&mut self.behind, before as usize, behind);

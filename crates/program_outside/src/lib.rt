@@ -15,7 +15,7 @@ pub use ends::{EndStatus, Failure, Output};
 pub use program::{answer_given, exit_code, given_words, no_words, run_program};
 pub use programs::{Answers, Program};
 pub use reading::{ReadError, read_opened, read_text};
-pub use serving::{refuse_words, reply, serve, serve_words, unread};
+pub use serving::{end_without_text, refuse_words, reply, serve, serve_words};
 pub use words::{
     OptionValue, WordsFault, bare_command, matches_by, number, number_option, text_option,
     with_option, with_options,

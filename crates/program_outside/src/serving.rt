@@ -38,7 +38,7 @@ pub fn reply<E: EndStatus, K: Sink>(sink: &mut K, made: Result<Output<E>, Memory
 }
 
 /// The end of a call that has no text.
-pub fn unread<E: EndStatus>(error: ReadError) -> E
+pub fn end_without_text<E: EndStatus>(error: ReadError) -> E
     ensures { result ≡ E.told (IsUnreadFor error) }
 {
     match error {
@@ -61,7 +61,7 @@ pub fn serve<P: Answers, S: Source, K: Sink>(
 {
     match read_text(alloc, MOST_OF_DOCUMENT + 1, source) {
         Ok(text) => reply(sink, P::answer(alloc, asked, text.as_slice())),
-        Err(error) => unread(error),
+        Err(error) => end_without_text(error),
     }
 }
 

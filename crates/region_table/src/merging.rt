@@ -71,7 +71,7 @@ fn is_left_next(a: &[Interval], i: usize, b: &[Interval], j: usize) -> bool
 }
 
 /// The intervals that have the words of `a` and those of `b`.
-pub(crate) fn merged(alloc: Global, a: &[Interval], b: &[Interval]) -> Result<Vec<Interval>, Memory>
+pub(crate) fn merge(alloc: Global, a: &[Interval], b: &[Interval]) -> Result<Vec<Interval>, Memory>
     requires left { IsCanonical a.now }
     requires right { IsCanonical b.now }
     ensures canonical { IfOk result (λ out. IsCanonical out.items) }

@@ -28,7 +28,7 @@ pub(crate) fn plan_crosses(plan: &PhasePlan) {
 }
 
 /// The union of two sets. If `other` is empty, as most sets by lock are, it gives `words` back: a union would copy it.
-fn joined(words: WordSet, other: &WordSet) -> Result<WordSet, Memory>
+fn union(words: WordSet, other: &WordSet) -> Result<WordSet, Memory>
     ensures { IfOk result (IsUnion words other.now) }
 {
     match other.intervals() {
@@ -43,7 +43,7 @@ fn union_of(words: WordSet, sets: &[WordSet]) -> Result<WordSet, Memory>
 {
     let mut all = words;
     for set in sets {
-        all = joined(all, set)?;
+        all = union(all, set)?;
     }
     Ok(all)
 }
@@ -54,7 +54,7 @@ fn words_written(alloc: Global, phase: &Phase) -> Result<WordSet, Memory>
 {
     let mut all = WordSet::new(alloc);
     for task in phase.tasks.as_slice() {
-        let plain = joined(all, &task.effects.writes)?;
+        let plain = union(all, &task.effects.writes)?;
         all = union_of(plain, task.effects.guarded_writes.as_slice())?;
     }
     Ok(all)
@@ -77,7 +77,7 @@ fn union_with(words: WordSet, other: Option<&WordSet>) -> Result<WordSet, Memory
     ensures { IfOk result (λ all. (w : ℕ) → has all w ≡ (has words w || has (unwrap_or (option_copied other.entry) []) w)) }
 {
     match other {
-        Some(set) => joined(words, set),
+        Some(set) => union(words, set),
         None => Ok(words),
     }
 }

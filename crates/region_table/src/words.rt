@@ -4,7 +4,7 @@ ghost use Rattle.region_table.specs.declared.interval.Interval.{Interval};
 ghost use Rattle.region_table.specs.Words.{has, IsCanonical, IsUnion, IsCommon, Meet, IsLeastCommon};
 
 use crate::interval::Interval;
-use crate::merging::{all_joined, by_starts, least_common_word, merged};
+use crate::merging::{all_joined, by_starts, least_common_word, merge};
 use crate::searching::first_past;
 use dn_base::{MOST_WORDS, Memory, WordId};
 use std::alloc::Global;
@@ -84,7 +84,7 @@ impl WordSet {
         ensures { IfOk result (IsUnion self.now other.now) }
     {
         let alloc = *self.intervals.allocator();
-        let intervals = merged(alloc, self.intervals(), other.intervals())?;
+        let intervals = merge(alloc, self.intervals(), other.intervals())?;
         Ok(WordSet { intervals })
     }
 

@@ -206,7 +206,7 @@ impl Node {
 
     /// The word after the task's store, where the word's value was `old`.
     #[inline(always)]
-    fn merged(&self, context: &Context<'_>, declared: &TaskDecl, need: &Need, old: u32) -> u32
+    fn word_after(&self, context: &Context<'_>, declared: &TaskDecl, need: &Need, old: u32) -> u32
         requires look { IfSome self.now.task (IsNeed (setting context.now) declared.now need.now) }
         requires kind { IsStore need.now }
         ensures { (t : TaskState) → self.now.task ≡ Some t → result ≡ merged_of (setting context.now).program old t }
@@ -236,7 +236,7 @@ impl Node {
             → self.new ≡ stored (setting context.now) self.old declared.now t target.word (AsRegistered (merged_of (setting context.now).program target.old t) pending) }
     {
         let Target { word, probe, old } = target;
-        let value = self.merged(context, declared, need, old);
+        let value = self.word_after(context, declared, need, old);
         sign(&mut self.signatures, &self.task, declared, word, self.phase);
         let entry = Entry::Registered { value, pending };
         enter(&mut self.cache, word, probe, entry);

@@ -273,7 +273,7 @@ impl Node {
 
     /// The home of a word says that the core is its owner.
     #[inline(always)]
-    pub(crate) fn acknowledged(&mut self, word: WordId)
+    pub(crate) fn acknowledge(&mut self, word: WordId)
         ensures node { self.new ≡ (reg_ack_row self.old word (entry_of self.old word.0)).0 }
         ensures received { record { sent = None; granted = None } ≡ (reg_ack_row self.old word (entry_of self.old word.0)).1 }
     {
@@ -293,7 +293,7 @@ impl Node {
 
     /// Another core is the owner of a word now.
     #[inline(always)]
-    pub(crate) fn forwarded(&mut self, word: WordId, core: CoreId) -> Outgoing
+    pub(crate) fn forward(&mut self, word: WordId, core: CoreId) -> Outgoing
         ensures node { self.new ≡ (reg_fwd_row self.old word core (entry_of self.old word.0)).0 }
         ensures received { record { sent = Some result; granted = None } ≡ (reg_fwd_row self.old word core (entry_of self.old word.0)).1 }
     {

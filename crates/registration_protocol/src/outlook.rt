@@ -30,7 +30,7 @@ impl Outlook {
 
     /// The word that lacks a place, if one does.
     #[inline(always)]
-    pub(crate) fn lacked(&self) -> Option<WordId>
+    pub(crate) fn missing_word(&self) -> Option<WordId>
         ensures { result ≡ lacked self.now }
     {
         match self {

@@ -16,7 +16,7 @@ use rv_core::{End, EndShown, TaskEnd};
 use word_cache::Entry;
 
 /// How a task stands, by its end and its node's wait; None if it hasn't ended and waits for no lock.
-fn shown(end: Option<End>, wait: NodeWait) -> Option<EndShown>
+fn end_shown(end: Option<End>, wait: NodeWait) -> Option<EndShown>
     ensures { result ≡ shown_by end wait }
 {
     match end {
@@ -71,7 +71,11 @@ impl Node {
         requires fits { Fits (setting context.now) self.now }
         ensures { result ≡ may_evict (setting context.now) self.now word.0 }
     {
-        self.may_make_room(context, word, self.outlook(self.need(context)).lacked())
+        self.may_make_room(
+            context,
+            word,
+            self.outlook(self.need(context)).missing_word(),
+        )
     }
 
     /// Evicts a word, as `evict` does. What is sent is put into the caller's place. Takes no memory.
@@ -189,7 +193,7 @@ impl Node {
         if outlook.is_clear() {
             return Some(Event::Instr(self.core));
         }
-        match self.eviction(context, outlook.lacked()) {
+        match self.eviction(context, outlook.missing_word()) {
             Some(event) => Some(event),
             None => self.arrival(),
         }
@@ -201,7 +205,7 @@ impl Node {
         ensures { result ≡ end_of self.now self.now.task }
     {
         let task = self.task.as_ref()?;
-        let end = shown(task.end, self.wait)?;
+        let end = end_shown(task.end, self.wait)?;
         Some(TaskEnd {
             phase: self.phase,
             core: self.core,

@@ -73,12 +73,7 @@ impl Node {
     }
 
     /// A lock is granted.
-    fn granted(
-        &mut self,
-        context: &Context<'_>,
-        lock: LockId,
-        signature: Signature,
-    ) -> Option<Grant>
+    fn grant(&mut self, context: &Context<'_>, lock: LockId, signature: Signature) -> Option<Grant>
         requires fits { Fits (setting context.now) self.old }
         ensures node { self.new ≡ (grant_row (setting context.now) self.old lock signature self.old.waiting).0 }
         ensures received { record { sent = None; granted = result } ≡ (grant_row (setting context.now) self.old lock signature self.old.waiting).1 }
@@ -150,11 +145,11 @@ impl Node {
                 None
             }
             Message::RegAck { word } => {
-                self.acknowledged(word);
+                self.acknowledge(word);
                 None
             }
             Message::RegFwd { word, core } => {
-                *sent = Some(self.forwarded(word, core));
+                *sent = Some(self.forward(word, core));
                 None
             }
             Message::ReadFwd { word, reader } => {
@@ -165,7 +160,7 @@ impl Node {
                 self.given_back(word);
                 None
             }
-            Message::Grant { lock, signature } => self.granted(context, lock, signature),
+            Message::Grant { lock, signature } => self.grant(context, lock, signature),
             Message::Go { phase } => {
                 self.go(context, phase);
                 None

@@ -60,7 +60,7 @@ pub(crate) fn amount(word: u32) -> i32
 }
 
 /// The number that a field stands for in two's complement; `half` is the weight of its sign bit.
-fn signed(field: u32, half: u32) -> i32
+fn twos_complement(field: u32, half: u32) -> i32
     requires sign { half ≤ 0x10_0000 }
     requires within { field < half + half }
     ensures { result ≡ (if nat_lt field half then pos field else (pos field -ℤ pos (half + half))) }
@@ -77,7 +77,7 @@ fn signed(field: u32, half: u32) -> i32
 pub(crate) fn i_immediate(word: u32) -> i32
     ensures { result ≡ imm_i word }
 {
-    signed(bits(word, 20, 12), 0x800)
+    twos_complement(bits(word, 20, 12), 0x800)
 }
 
 /// The immediate of the S format.
@@ -85,7 +85,7 @@ pub(crate) fn i_immediate(word: u32) -> i32
 pub(crate) fn s_immediate(word: u32) -> i32
     ensures { result ≡ imm_s word }
 {
-    signed((bits(word, 25, 7) << 5) + bits(word, 7, 5), 0x800)
+    twos_complement((bits(word, 25, 7) << 5) + bits(word, 7, 5), 0x800)
 }
 
 /// The immediate of the B format.
@@ -97,7 +97,7 @@ pub(crate) fn b_immediate(word: u32) -> i32
         + (bits(word, 7, 1) << 11)
         + (bits(word, 25, 6) << 5)
         + (bits(word, 8, 4) << 1);
-    signed(field, 0x1000)
+    twos_complement(field, 0x1000)
 }
 
 /// The number of the U format, for bits 31 to 12.
@@ -116,5 +116,5 @@ pub(crate) fn j_immediate(word: u32) -> i32
         + (bits(word, 12, 8) << 12)
         + (bits(word, 20, 1) << 11)
         + (bits(word, 21, 10) << 1);
-    signed(field, 0x10_0000)
+    twos_complement(field, 0x10_0000)
 }

@@ -6,4 +6,4 @@ use Rattle.grant_log.proofs.log.merge.Goals as goal
 pub returns : goal.returns
 returns c =
     merges (map (λ log. log.items) c.args.logs.items) _ c.requires
-    (rw (gathers (λ (log : Vec Stamped Global). log.items) c.args.logs.items, ← c.in_ok-gathered.ensures) c.in_ok-merged.ensures.permutation) c.in_ok-merged.ensures.sorted
+    (rw (gathers (λ (log : Vec Stamped Global). log.items) c.args.logs.items, ← c.in_ok-gather.ensures) c.in_ok-merged.ensures.permutation) c.in_ok-merged.ensures.sorted

@@ -1,5 +1,5 @@
 use Rattle.region_table.proofs.MergeLemmas.{next-some, next-rises, merges-left, merges-swap}
-use Rattle.region_table.proofs.merging.merged.Goals as goal
+use Rattle.region_table.proofs.merging.merge.Goals as goal
 
 pub join-requires-clause-some : goal.join-requires-clause-some
 join-requires-clause-some c =

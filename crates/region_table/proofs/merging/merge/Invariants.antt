@@ -1,6 +1,6 @@
 use Rattle.std.proofs.Common.{◌+◌, ◌-◌, length}
 use Rattle.region_table.proofs.MergeLemmas.{Merges}
-use Rattle.region_table.proofs.merging.merged.Given as goal
+use Rattle.region_table.proofs.merging.merge.Given as goal
 
 abbrev pub invariant-loop-i : goal.invariant-loop-i
 invariant-loop-i l = Merges l.a l.b l.i l.j l.out.items

@@ -2,7 +2,7 @@ use Rattle.std.proofs.Common.{◌≡◌, ◌+◌, ◌≤◌, ◌++◌, length}
 use Rattle.std.specs.Prelude.{reverse}
 use Rattle.std.specs.Vec.{vec_len, vec_capacity}
 use Rattle.bank_hall.specs.Halls.{passes_of}
-use Rattle.bank_hall.proofs.hall.tied.Given as goal
+use Rattle.bank_hall.proofs.hall.tie.Given as goal
 
 abbrev pub invariant-loop-last : goal.invariant-loop-last
 invariant-loop-last l = record {

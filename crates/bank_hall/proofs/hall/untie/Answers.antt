@@ -1,7 +1,7 @@
 use Rattle.std.proofs.Common.{◌≡◌, ◌+◌, length, ap, arith}
 use Rattle.bank_hall.proofs.EndLemmas.{row_more}
 use Rattle.bank_hall.proofs.StartLemmas.{length-pushed}
-use Rattle.bank_hall.proofs.hall.untied.Goals as goal
+use Rattle.bank_hall.proofs.hall.untie.Goals as goal
 
 pub loop-pass-preserved : goal.loop-pass-preserved
 loop-pass-preserved c =

@@ -1,7 +1,7 @@
 use Rattle.std.proofs.Common.{◌≡◌, ◌+◌, ◌≤◌, ◌++◌, length, map}
 use Rattle.std.specs.Prelude.{reverse}
 use Rattle.std.specs.Vec.{vec_len, vec_capacity}
-use Rattle.bank_hall.proofs.hall.untied.Given as goal
+use Rattle.bank_hall.proofs.hall.untie.Given as goal
 
 abbrev pub invariant-loop-pass : goal.invariant-loop-pass
 invariant-loop-pass l = record {

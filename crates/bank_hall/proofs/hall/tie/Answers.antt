@@ -1,7 +1,7 @@
 use Rattle.std.proofs.Common.{◌≡◌, ◌+◌, length, arith}
 use Rattle.bank_hall.proofs.HallStart.{tied_more}
 use Rattle.bank_hall.proofs.StartLemmas.{length-pushed}
-use Rattle.bank_hall.proofs.hall.tied.Goals as goal
+use Rattle.bank_hall.proofs.hall.tie.Goals as goal
 
 pub loop-last-preserved : goal.loop-last-preserved
 loop-last-preserved c =
