@@ -22,7 +22,7 @@ struct Came {
 
 impl Came {
     /// Whether it sent the message that the event with this number handles.
-    fn sent(&self, number: usize) -> bool {
+    fn has_sent(&self, number: usize) -> bool {
         self.before.get(number) == Some(&false) && self.behind.get(number) == Some(&true)
     }
 }
@@ -115,7 +115,7 @@ fn depends(all: &[Came], earlier: usize, number: usize) -> bool {
         return false;
     };
     let is_own = first.actor == event.actor && is_next(all, earlier, number, event.actor);
-    is_own || first.sent(number)
+    is_own || first.has_sent(number)
 }
 
 /// What a set of the events takes, where each of them depends on the one before it in the set; None where one doesn't. The set

@@ -2,7 +2,7 @@ ghost use Rattle.dn_top.specs.Command.{OptionsInRange};
 
 use crate::opening::{open, options_of, program};
 use crate::stepping::Stepping;
-use crate::{Case, Comparison, Trouble, are_loads, is_same, replayed};
+use crate::{Case, Comparison, Trouble, are_loads, is_same, replay_loads};
 use dn_machine::RunRecord;
 use dn_top::{Mode, Options};
 use effect_checker::Checked;
@@ -21,12 +21,12 @@ fn loads_alike(
     requires { OptionsInRange options.now }
 {
     let machine = open(alloc, checked, options)?;
-    let loads = replayed(alloc, &mut Stepping { machine }, events)?;
+    let loads = replay_loads(alloc, &mut Stepping { machine }, events)?;
     Ok(are_loads(alloc, loads.as_slice(), tasks)?)
 }
 
 /// Compares a run of a program on the machine of these options with the reference machine's run by its grants.
-fn compared(
+fn compare_run(
     alloc: Global,
     checked: Checked,
     options: &Options,
@@ -54,5 +54,5 @@ pub fn compare(alloc: Global, case: &Case, run: &RunRecord) -> Result<Option<Com
         return Ok(None);
     }
     let checked = program(alloc, case.text.as_slice())?;
-    Ok(Some(compared(alloc, checked, &options, run)?))
+    Ok(Some(compare_run(alloc, checked, &options, run)?))
 }

@@ -78,7 +78,7 @@ fn push_count(alloc: Global, out: &mut Vec<u8>, name: &str, count: u64) -> Resul
 }
 
 /// The kind that a line counts, where it is of some events.
-pub fn counted(line: &str) -> Option<EventKind> {
+pub fn counted_kind(line: &str) -> Option<EventKind> {
     let (kind, count) = line.strip_prefix("count ")?.split_once(' ')?;
     match count.parse::<u64>() {
         Ok(0) | Err(_) => None,

@@ -14,7 +14,7 @@ pub struct Got {
 }
 
 /// The run of a case's text, before its first event.
-fn opened(alloc: Global, case: &Case) -> Result<ScriptedRun<Stepping>, Trouble> {
+fn open_case(alloc: Global, case: &Case) -> Result<ScriptedRun<Stepping>, Trouble> {
     let options = options_of(alloc, case)?;
     let checked = program(alloc, case.text.as_slice())?;
     let cores = checked.program().cores();
@@ -46,7 +46,7 @@ fn answer(played: Played) -> Got {
 
 /// Makes the events of a script, and answers what the program writes of such a run.
 pub fn play(alloc: Global, case: &Case, script: &[ScriptLine]) -> Result<Got, Stop> {
-    let run = match opened(alloc, case) {
+    let run = match open_case(alloc, case) {
         Ok(run) => run,
         Err(why) => return Err(Stop { place: 0, why }),
     };

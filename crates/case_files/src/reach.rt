@@ -1,7 +1,7 @@
 ghost use Rattle.std.specs.Prelude.{◌↔◌, ◌<◌, IsTrue};
 ghost use Rattle.std.specs.List.{All};
 
-use crate::{KINDS, counted};
+use crate::{KINDS, counted_kind};
 use message_net::EventKind;
 use std::alloc::{AllocError, Global};
 use std::str;
@@ -29,7 +29,7 @@ impl Reach {
 
     /// Adds a line of what a case wrote.
     fn add_line(&mut self, line: &str) {
-        if let Some(kind) = counted(line) {
+        if let Some(kind) = counted_kind(line) {
             let cases = &mut self.cases[kind.index()];
             *cases = cases.saturating_add(1);
         }

@@ -46,7 +46,7 @@ impl Replay {
 ///
 /// # Errors
 /// `NotNow` where an event is not enabled.
-pub fn replayed<M: EventMachine>(
+pub fn replay_loads<M: EventMachine>(
     alloc: Global,
     machine: &mut M,
     events: &[Event],

@@ -10,8 +10,8 @@ pub fn rows(alloc: Global, lines: &[&str]) -> Result<Vec<Vec<String>>, Trouble> 
         return one_row(alloc);
     };
     match behind(first, "each") {
-        Some("") => listed(alloc, others),
-        Some(range) => counted(alloc, range, others),
+        Some("") => rows_listed(alloc, others),
+        Some(range) => rows_counted(alloc, range, others),
         None => Err(Trouble::Form(BadForm::NoRow)),
     }
 }
@@ -24,7 +24,7 @@ fn one_row(alloc: Global) -> Result<Vec<Vec<String>>, Trouble> {
 }
 
 /// A row for each line.
-fn listed(alloc: Global, lines: &[&str]) -> Result<Vec<Vec<String>>, Trouble> {
+fn rows_listed(alloc: Global, lines: &[&str]) -> Result<Vec<Vec<String>>, Trouble> {
     let mut rows = Vec::new(alloc);
     for line in lines {
         if !is_silent(line) {
@@ -50,7 +50,7 @@ fn columns(alloc: Global, row: &str) -> Result<Vec<String>, Trouble> {
 }
 
 /// A row for each number of a range.
-fn counted(alloc: Global, range: &str, others: &[&str]) -> Result<Vec<Vec<String>>, Trouble> {
+fn rows_counted(alloc: Global, range: &str, others: &[&str]) -> Result<Vec<Vec<String>>, Trouble> {
     let Some((from, to)) = range.split_once(" to ") else {
         return Err(Trouble::Form(BadForm::NoRow));
     };
@@ -61,11 +61,11 @@ fn counted(alloc: Global, range: &str, others: &[&str]) -> Result<Vec<Vec<String
     if to < from {
         return Err(Trouble::Form(BadForm::NoRow));
     }
-    Ok(numbered(alloc, from, to)?)
+    Ok(number_rows(alloc, from, to)?)
 }
 
 /// A row for each number between these, which are the first and the last.
-fn numbered(alloc: Global, from: u32, to: u32) -> Result<Vec<Vec<String>>, AllocError> {
+fn number_rows(alloc: Global, from: u32, to: u32) -> Result<Vec<Vec<String>>, AllocError> {
     let mut rows = Vec::new(alloc);
     for number in from..=to {
         rows.push(one_column(alloc, number)?)?;
@@ -81,7 +81,7 @@ fn one_column(alloc: Global, number: u32) -> Result<Vec<String>, AllocError> {
 }
 
 /// A line with its columns in place of `$1`, `$2` and so on.
-pub fn filled(alloc: Global, line: &str, columns: &[String]) -> Result<String, Trouble> {
+pub fn fill(alloc: Global, line: &str, columns: &[String]) -> Result<String, Trouble> {
     let mut out = String::new(alloc);
     let mut pieces = line.split('$');
     if let Some(front) = pieces.next() {

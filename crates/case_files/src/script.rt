@@ -81,7 +81,7 @@ fn times(words: &[&str], count: &str) -> Result<Said, Trouble> {
 }
 
 /// What these words say.
-fn saying(words: &[&str]) -> Result<Said, Trouble> {
+fn say(words: &[&str]) -> Result<Said, Trouble> {
     match words {
         ["loads", word, value] => load(word, value),
         ["word", word, value] => word_value(word, value),
@@ -92,6 +92,6 @@ fn saying(words: &[&str]) -> Result<Said, Trouble> {
 
 /// The line of a script at an index.
 pub fn script_line(alloc: Global, place: usize, line: &str) -> Result<ScriptLine, Trouble> {
-    let said = saying(words(alloc, line)?.as_slice())?;
+    let said = say(words(alloc, line)?.as_slice())?;
     Ok(ScriptLine { place, said })
 }

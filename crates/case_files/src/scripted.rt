@@ -146,7 +146,7 @@ impl<M: EventMachine + Drop> ScriptedRun<M> {
         self.note_waits()?;
         let memory = self.memory()?;
         let ending = ending(self.ends, memory)?;
-        let written = written(self.alloc, &self.notes, &ending)?;
+        let written = write_run(self.alloc, &self.notes, &ending)?;
         Ok(Played {
             written,
             notes: self.notes,
@@ -156,7 +156,7 @@ impl<M: EventMachine + Drop> ScriptedRun<M> {
 }
 
 /// What the program writes of a run.
-fn written(alloc: Global, notes: &Notes, ending: &Ending) -> Result<Written, Trouble> {
+fn write_run(alloc: Global, notes: &Notes, ending: &Ending) -> Result<Written, Trouble> {
     if 64 < ending.tasks.len() || 65_536 < ending.memory.len() {
         return Err(Trouble::Form(BadForm::NoMachine));
     }

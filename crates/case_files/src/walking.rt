@@ -1,5 +1,5 @@
 use crate::case::{Case, Draft};
-use crate::row::{filled, rows};
+use crate::row::{fill, rows};
 use crate::section::{Section, behind, sections};
 use crate::texts::{Named, Texts};
 use crate::trouble::{BadForm, Stop, Trouble};
@@ -234,7 +234,7 @@ fn take_filled(
     if row.is_empty() {
         return draft.take(texts, line);
     }
-    let line = filled(alloc, line, row)?;
+    let line = fill(alloc, line, row)?;
     draft.take(texts, line.as_str())
 }
 

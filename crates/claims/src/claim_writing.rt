@@ -3,7 +3,7 @@ ghost use Rattle.claims.specs.declared.claim.ClaimTextError.TheVariants.{TooLarg
 ghost use Rattle.claims.specs.Claim.{IsQuestion, IsGrant, IsTaskHead, IsTask, IsLoads, IsClaim, IsClaimDocument, title, question_text, head_text, head_of, three_fields, grant_row, load_row, task_head_row, task_rows, head_of_task, loads_head_row, head_of_loads, tasks_text, loads_text, claim_text as text_of, most_bytes};
 
 use crate::claim::{Claim, ClaimTextError, Question};
-use crate::limits::{grants_fit, loads_fit, told};
+use crate::limits::{grants_fit, line_count, loads_fit};
 use crate::rows::TaskHead;
 use dn_base::{Grant, LoadSeen, MOST_OF_DOCUMENT, MOST_OF_TEXT, Memory, Sequence};
 use flat_machine::TaskLoads;
@@ -95,7 +95,7 @@ fn push_task(out: &mut Vec<u8>, task: &TaskLoads) -> Result<(), ClaimTextError>
     let head = TaskHead {
         phase: task.phase,
         core: task.core,
-        count: told(task.loads.len())?,
+        count: line_count(task.loads.len())?,
     };
     push_task_head(out, head)?;
     push_loads(out, task.loads.as_slice())?;
@@ -140,7 +140,7 @@ fn push_loads_part(
     match loads {
         None => Ok(push_loads_head(out, None)?),
         Some(tasks) => {
-            push_loads_head(out, Some(told(tasks.len())?))?;
+            push_loads_head(out, Some(line_count(tasks.len())?))?;
             push_tasks(out, tasks.as_slice())
         }
     }
@@ -168,7 +168,7 @@ fn write(alloc: Global, claim: &Claim) -> Result<Vec<u8>, ClaimTextError>
     ensures large { IfErr result (λ error. error ≡ TextTooLarge → most_bytes < length (text_of claim.now)) }
 {
     let mut out = Vec::new(alloc);
-    push_head(&mut out, &claim.question, told(claim.grants.len())?)?;
+    push_head(&mut out, &claim.question, line_count(claim.grants.len())?)?;
     push_grants(&mut out, claim.grants.as_slice())?;
     push_loads_part(&mut out, &claim.loads)?;
     push(&mut out, claim.answer.as_slice())?;

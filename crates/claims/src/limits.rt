@@ -9,7 +9,7 @@ use dn_base::{Grant, LoadSeen};
 ///
 /// # Errors
 /// `TooLarge` if there are 2^32 or more: each line has at least a byte, so no document has room for that many.
-pub(crate) fn told(lines: usize) -> Result<u32, ClaimTextError>
+pub(crate) fn line_count(lines: usize) -> Result<u32, ClaimTextError>
     ensures count { IfOk result (λ count. count ≡ lines) }
     ensures number { IfOk result (λ count. IsNumber lines) }
     ensures large { IfErr result (λ error. most_bytes < lines) }

@@ -36,7 +36,7 @@ impl Model for Handle {
 
 impl Handle {
     /// A handle without a machine.
-    fn closed(alloc: Global) -> Handle
+    fn without_machine(alloc: Global) -> Handle
         ensures { result.machine ≡ None }
     {
         Handle {
@@ -83,7 +83,7 @@ impl Handle {
         ensures rest { self.new.machine ≡ None }
         ensures taken { MatchOption result (self.old.machine ≡ None) (λ b. self.old.machine ≡ Some b.value) }
     {
-        match replace(self, Handle::closed(alloc)).into_loose() {
+        match replace(self, Handle::without_machine(alloc)).into_loose() {
             Some(loose) => Some(loose.into_box()),
             None => None,
         }

@@ -50,7 +50,7 @@ use referee_top::Referee;
 use served::{answer_denovo, answer_explain};
 pub use slice_source::SliceSource;
 use std::alloc::Global;
-use steps::{Sizes, enabled_codes, opened, step};
+use steps::{Sizes, enabled_codes, open_machine, step};
 use view_top::Viewer;
 pub use words::words_in;
 
@@ -164,7 +164,7 @@ pub extern "C" fn denovo_open(
         ways,
         fuel,
     };
-    match opened(alloc, text, sizes) {
+    match open_machine(alloc, text, sizes) {
         Ok(held) => {
             machine.put(held);
             0

@@ -89,7 +89,7 @@ fn fits(sizes: Sizes) -> bool
 }
 
 /// The machine of a checked program when a run begins, in a box.
-fn started(alloc: Global, checked: Checked, sizes: Sizes) -> Result<Box<Machine>, Memory>
+fn start_machine(alloc: Global, checked: Checked, sizes: Sizes) -> Result<Box<Machine>, Memory>
     requires { FitsSizes sizes }
     ensures { IfOk result (λ m. IsInitialMachine checked (sized_shape checked sizes) sizes.fuel m.value) }
 {
@@ -108,7 +108,11 @@ fn started(alloc: Global, checked: Checked, sizes: Sizes) -> Result<Box<Machine>
 /// # Errors
 /// `Usage` if a size or the fuel is out of its range, `Refused` if the text has a fault or its tasks conflict, and `Memory` if there
 /// is no room.
-pub(crate) fn opened(alloc: Global, text: &[u8], sizes: Sizes) -> Result<Box<Machine>, Unopened>
+pub(crate) fn open_machine(
+    alloc: Global,
+    text: &[u8],
+    sizes: Sizes,
+) -> Result<Box<Machine>, Unopened>
     ensures opened { IfOk result (λ m. HasChecked text.now (λ P. IsInitialMachine P (sized_shape P sizes) sizes.fuel m.value)) }
     ensures why { IfErr result (IsUnopened text.now sizes) }
 {
@@ -116,7 +120,7 @@ pub(crate) fn opened(alloc: Global, text: &[u8], sizes: Sizes) -> Result<Box<Mac
         return Err(Unopened::Usage);
     }
     match checked_of(alloc, text) {
-        Ok(checked) => Ok(started(alloc, checked, sizes)?),
+        Ok(checked) => Ok(start_machine(alloc, checked, sizes)?),
         Err(Stop::Refused(_)) => Err(Unopened::Refused),
         Err(Stop::Memory) => Err(Unopened::Memory),
     }

@@ -67,7 +67,7 @@ impl Content {
 
     /// Whether an event is enabled.
     #[tactic(auto, unfolding(machine_rules::specs::Next::enabled))]
-    pub(crate) fn enabled(&self, context: &Context<'_>, event: &Event) -> bool
+    pub(crate) fn is_enabled(&self, context: &Context<'_>, event: &Event) -> bool
         requires context { IsContext (setting context.now) }
         requires fits { (core : ℕ) (n : NodeParts) → slice_get self.now.nodes.items core ≡ Some n → Fits (setting context.now) n }
         ensures { result ≡ enabled (state_of (setting context.now) self.now) event.now }

@@ -76,7 +76,7 @@ pub(crate) fn context_of<'a>(
 }
 
 /// What changes in a machine of this decoded program and these plans, when a run begins.
-fn opened(
+fn open_content(
     alloc: Global,
     decoded: &DecodedProgram,
     plans: &Vec<PhasePlan>,
@@ -142,7 +142,7 @@ impl Machine {
         requires one_form { AreInOneForm plans.items }
         ensures { IfOk result (IsInitialMachine decoded shape fuel) }
     {
-        let content = opened(alloc, &decoded, &plans, shape, fuel)?;
+        let content = open_content(alloc, &decoded, &plans, shape, fuel)?;
         Ok(Machine {
             decoded,
             plans,
@@ -165,7 +165,7 @@ impl Machine {
         ensures { result ≡ enabled self.now.state event.now }
     {
         let context = context_of(&self.decoded, &self.plans, self.shape, self.fuel);
-        self.content.enabled(&context, event)
+        self.content.is_enabled(&context, event)
     }
 
     /// Makes an event, which must be one that is enabled, and gives what it tells. Fewer than 4,000,000,000 events must have come
@@ -249,7 +249,7 @@ impl Machine {
     pub fn run_copy(&self, alloc: Global, seed: u32) -> Result<RunRecord, Memory>
         ensures { IfOk result (IsSeedsRunOf (initial_state self.now.state.setting) seed) }
     {
-        let content = opened(alloc, &self.decoded, &self.plans, self.shape, self.fuel)?;
+        let content = open_content(alloc, &self.decoded, &self.plans, self.shape, self.fuel)?;
         let context = context_of(&self.decoded, &self.plans, self.shape, self.fuel);
         run_from_start(alloc, &context, content, seed)
     }
@@ -264,7 +264,7 @@ impl Machine {
         ensures made { OnOk result (self.new.made ≡ 0) }
         ensures err { OnErr result (self.new ≡ self.old) }
     {
-        self.content = opened(alloc, &self.decoded, &self.plans, self.shape, self.fuel)?;
+        self.content = open_content(alloc, &self.decoded, &self.plans, self.shape, self.fuel)?;
         self.made = 0;
         Ok(())
     }

@@ -43,7 +43,7 @@ impl Content {
             × (told ≡ observed (state_of (setting context.now) self.old) event) × (state_of (setting context.now) self.new ≡ next (state_of (setting context.now) self.old) event) }
         ensures known { KnowsOwn (setting context.now) self.new }
     {
-        if !self.enabled(context, &event) {
+        if !self.is_enabled(context, &event) {
             return None;
         }
         Some(self.act(context, event))

@@ -13,7 +13,7 @@ ghost use Rattle.run_report.specs.Texts.{HasChecked, HasProgram, IsNoProgram, Is
 
 use crate::documents::{replay_document, trace_run};
 use crate::options::{Mode, Options};
-use crate::output::{Output, ended};
+use crate::output::{Output, output_of};
 use crate::runs::{report_run, run_alone, sum_up_run};
 use crate::timings::{time_alone, time_by_workers};
 use crate::workers::run_by_workers;
@@ -48,14 +48,14 @@ fn run_flat(alloc: Global, fuel: u32, checked: &Checked) -> Result<Output, Memor
 {
     let run = least_run(alloc, checked, fuel)?;
     let text = flat_text(alloc, &run)?;
-    Ok(ended(run.end.ending.outcome, text))
+    Ok(output_of(run.end.ending.outcome, text))
 }
 
 /// Counts what a program has.
 fn count(alloc: Global, program: &Program) -> Result<Output, Memory>
     ensures { IfOk result (λ out. out ≡ answered Status.Done (counts_of program.now)) }
 {
-    Ok(ended(Outcome::Done, checked_line(alloc, program)?))
+    Ok(output_of(Outcome::Done, checked_line(alloc, program)?))
 }
 
 /// Lists a program.
@@ -63,7 +63,7 @@ fn list(alloc: Global, program: &Program) -> Result<Output, Memory>
     requires { AreDeclaredNames (names_of program.now) }
     ensures { IfOk result (IsListing program.now) }
 {
-    Ok(ended(Outcome::Done, listing(alloc, program)?))
+    Ok(output_of(Outcome::Done, listing(alloc, program)?))
 }
 
 /// Says whether some run of the program may access a word outside its declared effects.
@@ -71,7 +71,7 @@ fn prove_effects(alloc: Global, checked: &Checked) -> Result<Output, Memory>
     ensures { IfOk result (IsProof checked.now) }
 {
     let proved = prove(alloc, checked)?;
-    Ok(ended(Outcome::Done, prove_text(alloc, &proved)?))
+    Ok(output_of(Outcome::Done, prove_text(alloc, &proved)?))
 }
 
 /// Counts what the program of a text has.

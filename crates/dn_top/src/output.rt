@@ -14,7 +14,7 @@ pub struct Output {
 }
 
 /// The output of an outcome with this text, without a run of the machine.
-pub(crate) fn ended(outcome: Outcome, text: Vec<u8>) -> Output
+pub(crate) fn output_of(outcome: Outcome, text: Vec<u8>) -> Output
     ensures { result ≡ answered (status_of outcome) text.items }
 {
     Output {

@@ -10,7 +10,7 @@ use program_outside::{WordsFault, matches_by, number};
 use std::alloc::Global;
 
 /// The mode with this name.
-fn named(text: &str) -> Option<Mode>
+fn mode_named(text: &str) -> Option<Mode>
     ensures { result ≡ mode_named text.now }
 {
     match text {
@@ -39,7 +39,7 @@ fn mode(matches: &ArgMatches<'_>) -> Option<Mode>
     ensures { result ≡ mode_in (rows_of (found_of matches.now)) }
 {
     match text_of(matches, "mode") {
-        Some(text) => named(text),
+        Some(text) => mode_named(text),
         None => None,
     }
 }

@@ -46,7 +46,7 @@ impl EndStatus for Answer {
 }
 
 /// An output as what the shell of programs writes.
-fn written(output: Output) -> program_outside::Output<Answer>
+fn written_output(output: Output) -> program_outside::Output<Answer>
     ensures { result ≡ written_of output }
 {
     let Output { status, bytes, run } = output;
@@ -60,7 +60,7 @@ fn reply<K: Sink>(sink: &mut K, output: Result<Output, Memory>) -> Answer
         → IsReplied answer_told (IsWrittenAnswer o text) (sink_of K.Sink sink.old) (sink_of K.Sink sink.new) result }
 {
     match output {
-        Ok(output) => program_outside::reply(sink, Ok(written(output))),
+        Ok(output) => program_outside::reply(sink, Ok(written_output(output))),
         Err(error) => program_outside::reply(sink, Err(error)),
     }
 }

@@ -37,7 +37,7 @@ fn run_of(alloc: Global, options: &Options, machine: &Machine) -> Result<RunReco
 }
 
 /// Sums up how a run of a machine at its start ended, tells the longest chain of its events, and hands it back.
-fn timed(
+fn sum_up(
     alloc: Global,
     options: &Options,
     machine: &mut Machine,
@@ -64,7 +64,7 @@ fn time_on(alloc: Global, options: &Options, machine: &mut Machine) -> Result<Ou
     ensures { IfOk result (IsTimedRun machine.old.state.setting.program (with_one_worker options.now)) }
 {
     let run = run_of(alloc, options, machine)?;
-    timed(alloc, options, machine, run)
+    sum_up(alloc, options, machine, run)
 }
 
 /// Runs a checked program on the machine that the options ask for, by their seed, on this thread alone, and times the run.
@@ -103,7 +103,7 @@ fn time_again(
     ensures { IfOk result (IsTimedFor machine.old.state.setting.program options.now run) }
 {
     machine.reset(alloc)?;
-    timed(alloc, options, machine, run)
+    sum_up(alloc, options, machine, run)
 }
 
 /// Times a run that workers made, on their machine.

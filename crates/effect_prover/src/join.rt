@@ -61,7 +61,7 @@ fn end_from(argument: u32, n: u32) -> u32
 
 impl Range {
     /// The least range with the numbers of both; at a head, the least that a head may have.
-    pub(crate) fn joined(self, given: Range, head: bool, argument: u32) -> Range
+    pub(crate) fn join(self, given: Range, head: bool, argument: u32) -> Range
         requires old { IsRange self }
         requires given { IsRange given }
         ensures { IsJoinedRange head argument self given result }
@@ -81,14 +81,14 @@ impl Range {
 
 impl Row {
     /// The least row that contains both.
-    pub(crate) fn joined(&self, given: &Row, head: bool, argument: u32) -> Row
+    pub(crate) fn join(&self, given: &Row, head: bool, argument: u32) -> Row
         requires old { IsRow self.now }
         requires given { IsRow given.now }
         ensures { IsRowJoined head argument self.now given.now result }
     {
         let mut ranges = self.ranges;
         for number in 0..32 {
-            ranges[number] = self.ranges[number].joined(given.ranges[number], head, argument);
+            ranges[number] = self.ranges[number].join(given.ranges[number], head, argument);
         }
         Row {
             ranges,
@@ -107,7 +107,7 @@ impl Row {
         }
         for number in 0..32 {
             let range = self.ranges[number];
-            if !range.is_same(range.joined(given.ranges[number], head, argument)) {
+            if !range.is_same(range.join(given.ranges[number], head, argument)) {
                 return false;
             }
         }

@@ -58,7 +58,7 @@ impl Range {
     }
 
     /// The range of the results from `least` to `greatest`, taken modulo 2^32.
-    fn wrapped(least: u64, greatest: u64) -> Range
+    fn wrap(least: u64, greatest: u64) -> Range
         ensures { result ≡ wrapped_range least greatest }
     {
         if least / NUMBERS == greatest / NUMBERS {
@@ -75,7 +75,7 @@ impl Range {
     fn plus(self, other: Range) -> Range
         ensures { result ≡ wrapped_range (self.lo + other.lo) (self.hi + other.hi) }
     {
-        Range::wrapped(
+        Range::wrap(
             u64::from(self.lo) + u64::from(other.lo),
             u64::from(self.hi) + u64::from(other.hi),
         )
@@ -85,7 +85,7 @@ impl Range {
     fn minus(self, other: Range) -> Range
         ensures { result ≡ wrapped_range (self.lo + 2 ^ 32 - other.hi) (self.hi + 2 ^ 32 - other.lo) }
     {
-        Range::wrapped(
+        Range::wrap(
             u64::from(self.lo) + NUMBERS - u64::from(other.hi),
             u64::from(self.hi) + NUMBERS - u64::from(other.lo),
         )
@@ -159,7 +159,7 @@ impl Range {
 
     /// The results of an operation on the numbers of two registers.
     #[tactic(auto, using(crate::proofs::RangeLemmas::results_lie))]
-    pub(crate) fn computed(op: AluOp, a: Range, b: Range) -> Range
+    pub(crate) fn compute(op: AluOp, a: Range, b: Range) -> Range
         requires first { IsRange a }
         requires second { IsRange b }
         ensures value { result ≡ computed op a b }

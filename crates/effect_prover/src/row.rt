@@ -61,7 +61,7 @@ impl Row {
     }
 
     /// The row with other locks.
-    pub(crate) fn holding(&self, held: u32) -> Row
+    pub(crate) fn with_held(&self, held: u32) -> Row
         ensures { result ≡ record self.now { held = held } }
     {
         Row {

@@ -250,11 +250,11 @@ impl Row {
         ensures { result ≡ calls locks self.now number lock }
     {
         if !number.is_one() {
-            return Successors::falls_through(&self.holding(0));
+            return Successors::falls_through(&self.with_held(0));
         }
         match number.lo {
-            1 => Successors::falls_through(&self.holding(self.after_acquire(locks, lock))),
-            2 => Successors::falls_through(&self.holding(self.after_release(lock))),
+            1 => Successors::falls_through(&self.with_held(self.after_acquire(locks, lock))),
+            2 => Successors::falls_through(&self.with_held(self.after_release(lock))),
             _ => Successors::stays(),
         }
     }
@@ -274,14 +274,14 @@ impl Row {
                 self.set(rd, results);
             }
             Instr::Op { op, rd, a, b } => {
-                self.set(rd, Range::computed(op, self.range(a), self.range(b)));
+                self.set(rd, Range::compute(op, self.range(a), self.range(b)));
             }
             _ => {}
         }
     }
 
     /// The row after such an instruction.
-    fn stepped(&self, pc: u32, instr: &Instr) -> Successors
+    fn after_step(&self, pc: u32, instr: &Instr) -> Successors
         requires row { IsRow self.now }
         requires plain { is_straight instr.now ≡ true }
         ensures { (locks : ℕ) → result ≡ successors locks pc self.now instr.now }
@@ -303,7 +303,7 @@ impl Row {
             Instr::Branch { cond, a, b, .. } => self.branch_on(cond, a, b),
             Instr::Ecall => self.calls(locks, self.ranges[A7], self.ranges[A0]),
             Instr::Jalr { .. } | Instr::Ebreak => Successors::stays(),
-            _ => self.stepped(pc, instr),
+            _ => self.after_step(pc, instr),
         }
     }
 }

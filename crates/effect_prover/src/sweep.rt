@@ -56,8 +56,8 @@ fn joined_to(old: &Option<Row>, given: &Row, head: bool, argument: u32) -> Row
     ensures { IsJoinedTo head argument old.now given.now result }
 {
     match old {
-        Some(row) => row.joined(given, head, argument),
-        None => given.joined(given, head, argument),
+        Some(row) => row.join(given, head, argument),
+        None => given.join(given, head, argument),
     }
 }
 

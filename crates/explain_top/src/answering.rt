@@ -11,7 +11,7 @@ use text_pieces::{push, push_long};
 pub type Explanation = Output<Status>;
 
 /// A refusal with this line.
-fn refused(line: Vec<u8>) -> Explanation
+fn refusal_of(line: Vec<u8>) -> Explanation
     ensures { result ≡ record { status = Status.SourceRefused; bytes = line.items } }
 {
     Output {
@@ -41,12 +41,12 @@ fn output_of(alloc: Global, explained: Explained) -> Result<Explanation, Memory>
             status: Status::Done,
             bytes,
         }),
-        Explained::Refused { line } => Ok(refused(refused_line(alloc, line)?)),
+        Explained::Refused { line } => Ok(refusal_of(refused_line(alloc, line)?)),
     }
 }
 
 /// Explains an answer of denovo, or else a verdict of the referee.
-fn explained(alloc: Global, text: &[u8], answer: &[u8]) -> Result<Explained, Memory>
+fn explain_any(alloc: Global, text: &[u8], answer: &[u8]) -> Result<Explained, Memory>
     ensures { IfOk result (IsEither text.now answer.now) }
 {
     match explain(alloc, text, answer)? {
@@ -70,7 +70,7 @@ pub fn answer(alloc: Global, text: &[u8], answer: &[u8]) -> Result<Explanation, 
     ensures { IfOk result (IsOutput text.now answer.now) }
 {
     if answer.len() > MOST_OF_DOCUMENT {
-        return Ok(refused(Vec::from_slice(alloc, b"refused answer too-large\n")?));
+        return Ok(refusal_of(Vec::from_slice(alloc, b"refused answer too-large\n")?));
     }
-    output_of(alloc, explained(alloc, text, answer)?)
+    output_of(alloc, explain_any(alloc, text, answer)?)
 }

@@ -10,32 +10,8 @@ ghost use Rattle.explained_answer.specs.AnswerLines.{HasLinkNumbers, link_line, 
 use crate::line::Link;
 use crate::long::ticks;
 use message_net::EventKind;
+use run_report::all_kinds;
 use text_pieces::field;
-
-#[tactic(auto, unfolding(run_report::specs::Run::all_kinds))]
-fn all_kinds() -> [EventKind; 17]
-    ensures { result ≡ all_kinds }
-{
-    [
-        EventKind::Instr,
-        EventKind::Evict,
-        EventKind::Arrive,
-        EventKind::ReadReq,
-        EventKind::ReadFwd,
-        EventKind::DataReply,
-        EventKind::RegReq,
-        EventKind::RegFwd,
-        EventKind::RegAck,
-        EventKind::WriteBack,
-        EventKind::WbAck,
-        EventKind::Acquire,
-        EventKind::Release,
-        EventKind::Grant,
-        EventKind::Arrived,
-        EventKind::Go,
-        EventKind::Halt,
-    ]
-}
 
 /// What stands before the ticks in the line of an event of this kind.
 fn kind_front(kind: EventKind) -> &'static [u8]

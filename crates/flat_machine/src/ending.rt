@@ -24,7 +24,7 @@ pub struct FlatEnd {
 }
 
 /// How a task quiescent is shown.
-fn shown(program: &Program, fuel: u32, running: &Running<'_>) -> EndShown
+fn end_shown(program: &Program, fuel: u32, running: &Running<'_>) -> EndShown
     ensures { result ≡ shown_of program.now fuel running.now running.now.state.end }
 {
     match running.state.end {
@@ -43,7 +43,7 @@ fn end_of_task(program: &Program, fuel: u32, running: &Running<'_>) -> TaskEnd
     TaskEnd {
         phase: running.phase,
         core: running.decl.core,
-        end: shown(program, fuel, running),
+        end: end_shown(program, fuel, running),
         retired: running.state.retired,
     }
 }

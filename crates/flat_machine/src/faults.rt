@@ -69,7 +69,7 @@ fn holder_of<'t, 'a>(tasks: &'t [Running<'a>], lock: LockId) -> Option<&'t Runni
 }
 
 /// That a task of these holds the lock.
-fn held(tasks: &[Running<'_>], lock: LockId) -> Option<GrantFault>
+fn holding_fault(tasks: &[Running<'_>], lock: LockId) -> Option<GrantFault>
     requires { lock.0 < 32 }
     ensures { result ≡ held_fault (find (task_holds lock.0) tasks.now) }
 {
@@ -96,7 +96,7 @@ fn fault_of_task(
     };
     match running.wish(program, fuel) {
         None => Some(GrantFault::Ended),
-        Some(Need::Acquire { lock }) if lock.0 == given.lock.0 => held(tasks, lock),
+        Some(Need::Acquire { lock }) if lock.0 == given.lock.0 => holding_fault(tasks, lock),
         Some(Need::Acquire { lock }) => Some(GrantFault::Waits { lock }),
         _ => None,
     }

@@ -6,7 +6,7 @@ ghost use Rattle.host_workers.specs.Opening.{crew_of, pass_of};
 ghost use Rattle.host_workers.specs.Finishing.{IsLeftBy, IsFinished};
 
 use crate::crew::Crew;
-use crate::inboxes::{Objects, parted};
+use crate::inboxes::{Objects, take_apart};
 use crate::roster::{Parted, Roster};
 use crate::working::Job;
 use bank_hall::{BankActor, Hall, HallEnd, KeeperActor, Pass, Port};
@@ -45,7 +45,7 @@ fn passes_and_crews(alloc: Global, mut jobs: Vec<Job>) -> Result<(Vec<Pass>, Vec
 ///
 /// # Errors
 /// `Memory` where there is no room.
-fn gathered(alloc: Global, crews: Vec<Crew>, shape: Shape) -> Result<Parted, Memory>
+fn gather(alloc: Global, crews: Vec<Crew>, shape: Shape) -> Result<Parted, Memory>
     requires some { 1 ≤ length crews.items }
     requires dealt { AreDealt shape.cores shape.banks crews.items }
     ensures { IfOk result (λ p. (roster : RosterParts) → IsRoster shape.cores shape.banks roster → AreCrewsOf (length crews.items) roster crews.items → IsTakenApart roster p) }
@@ -61,7 +61,7 @@ fn gathered(alloc: Global, crews: Vec<Crew>, shape: Shape) -> Result<Parted, Mem
 fn finished_of(alloc: Global, end: HallEnd, roster: Parted) -> Result<Finished, Memory>
     ensures { IfOk result (IsLeftBy end roster) }
 {
-    let objects = parted(alloc, end.parts)?;
+    let objects = take_apart(alloc, end.parts)?;
     Ok(Finished {
         parted: roster,
         objects,
@@ -88,6 +88,6 @@ pub(crate) fn finish(
 {
     let (passes, crews) = passes_and_crews(alloc, jobs)?;
     let end = hall.close(alloc, passes)?;
-    let roster = gathered(alloc, crews, shape)?;
+    let roster = gather(alloc, crews, shape)?;
     finished_of(alloc, end, roster)
 }

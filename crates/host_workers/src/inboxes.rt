@@ -263,7 +263,7 @@ fn port_inboxes(alloc: Global, mut ports: Vec<Port>) -> Result<Vec<Vec<Posted>>,
 ///
 /// # Errors
 /// `Memory` where there is no room.
-pub(crate) fn parted(alloc: Global, parts: HallParts) -> Result<Objects, Memory>
+pub(crate) fn take_apart(alloc: Global, parts: HallParts) -> Result<Objects, Memory>
     ensures { IfOk result (λ o. AreObjectsOf o.banks.items o.keeper (inboxes_of o.inboxes) o.next.items parts.banks.items parts.ports.items parts.keeper) }
 {
     let HallParts {

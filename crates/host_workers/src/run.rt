@@ -38,7 +38,7 @@ fn seed_after(seed: u32) -> u32
 ///
 /// # Errors
 /// `Memory` if there is no room; the log can't be used any more then.
-fn noted(log: &mut Log, round: Round) -> Result<Machine, Memory>
+fn finish_round(log: &mut Log, round: Round) -> Result<Machine, Memory>
     requires counted { (kinds : List EventKind) × IsTallied kinds log.old }
     requires few { length log.old.events + length round.merged.items ≤ MOST_EVENTS }
     ensures machine { IfOk result (λ m. m ≡ round.machine) }
@@ -76,7 +76,7 @@ fn go_on<R: Threads + Wait + Sync, G: Gate + Sync>(
     ensures setting { IfOk result (λ m. m.state.setting ≡ machine.state.setting) }
 {
     let round = run_round(rt, alloc, machine, workers, seed, gate)?;
-    noted(log, round)
+    finish_round(log, round)
 }
 
 /// Makes rounds until no event is enabled, and notes them. Gives the machine after them.
@@ -112,7 +112,7 @@ fn make_rounds<R: Threads + Wait + Sync, G: Gate + Sync>(
 ///
 /// # Errors
 /// `Memory` where there is no room for the ending.
-fn ended(alloc: Global, machine: &Machine, log: &mut Log) -> Result<Ending, Memory>
+fn note_ending(alloc: Global, machine: &Machine, log: &mut Log) -> Result<Ending, Memory>
     requires far { IsRunSoFar machine.now.state.setting machine.now log.old }
     requires over { IsOver machine.now.state }
     ensures run { IfOk result (λ ending. IsCoherentRun (initial_state machine.now.state.setting) (record { events = log.new.events; grants = log.new.grants; counts = log.new.counts; ending = ending })) }
@@ -128,13 +128,13 @@ fn ended(alloc: Global, machine: &Machine, log: &mut Log) -> Result<Ending, Memo
 ///
 /// # Errors
 /// `Memory` where there is no room for the record.
-fn recorded(alloc: Global, machine: &Machine, mut log: Log) -> Result<RunRecord, Memory>
+fn record_of(alloc: Global, machine: &Machine, mut log: Log) -> Result<RunRecord, Memory>
     requires far { IsRunSoFar machine.now.state.setting machine.now log }
     requires over { IsOver machine.now.state }
     ensures run { IfOk result (IsCoherentRun (initial_state machine.now.state.setting)) }
     ensures events { IfOk result (λ run. run.events ≡ log.events) }
 {
-    let ending = ended(alloc, machine, &mut log)?;
+    let ending = note_ending(alloc, machine, &mut log)?;
     Ok(log.record(ending))
 }
 
@@ -156,7 +156,7 @@ fn kept_beside(alloc: Global, machine: Machine, log: Log) -> Result<WorkersRun, 
     ensures made { IfOk result (IsMadeByWorkers (initial_state machine.state.setting)) }
     ensures setting { IfOk result (λ made. made.machine.state.setting ≡ machine.state.setting) }
 {
-    match recorded(alloc, &machine, log) {
+    match record_of(alloc, &machine, log) {
         Ok(run) => Ok(WorkersRun { run, machine }),
         Err(memory) => {
             // for the prover alone: one call drops the machine, in place of the drops of all its parts

@@ -7,7 +7,7 @@ ghost use Rattle.common_outcomes.specs.Alone.{seen, is_settled_if, stored_value,
 ghost use Rattle.outcomes_top.specs.Tracks.{IsTracked, IsWell};
 
 use crate::cells::{Place, cell, close_all, close_listed};
-use crate::kinds::{fetch, guards, is_settled, leave, load, stored};
+use crate::kinds::{fetch, guards, is_settled, leave, load, value_stored};
 use common_outcomes::{Cell, Effect, Kind, Value};
 use dn_base::{LockId, Memory, WordId};
 use rv_core::{End, Need, Next, TaskState};
@@ -110,7 +110,7 @@ impl TaskAlone {
         ensures value { self.new ≡ load_alone place.now.program self.old (seen place.now self.old.cells word.0) }
         ensures within { self.new.state.retired ≤ place.now.fuel }
     {
-        let value = place.seen(self.cells.as_slice(), word);
+        let value = place.value_seen(self.cells.as_slice(), word);
         self.state
             .complete_load(place.program, place.decl, place.fuel, next, value.number);
         load(&mut self.kinds, value.kind, &next.instr);
@@ -125,13 +125,13 @@ impl TaskAlone {
         requires kind { IsStore next.now.need }
         ensures { result ≡ stored_value place.now self.now word.0 }
     {
-        let before = place.seen(self.cells.as_slice(), word);
+        let before = place.value_seen(self.cells.as_slice(), word);
         let number = self
             .state
             .merged_by(place.program, place.decl, place.fuel, next, before.number);
         let shared = place.is_shared(word);
         Value {
-            kind: stored(&self.kinds, shared, word, before.kind, &next.instr),
+            kind: value_stored(&self.kinds, shared, word, before.kind, &next.instr),
             number,
         }
     }

@@ -64,7 +64,7 @@ impl Place<'_> {
 
     /// What the task reads in the word.
     #[inline(always)]
-    pub(crate) fn seen(&self, cells: &[Cell], word: WordId) -> Value
+    pub(crate) fn value_seen(&self, cells: &[Cell], word: WordId) -> Value
         ensures { result ≡ seen self.now cells.now word.0 }
     {
         match cell(cells, word).stored {
@@ -93,7 +93,7 @@ pub(crate) fn cell(cells: &[Cell], word: WordId) -> Cell
 }
 
 /// What two sections did, in either order.
-pub(crate) fn joined(a: Effect, b: Effect) -> Effect
+pub(crate) fn join(a: Effect, b: Effect) -> Effect
     ensures { result ≡ joined_effect a b }
 {
     match (a, b) {
@@ -126,17 +126,17 @@ fn effect_of(stored: Option<Value>) -> Effect
 }
 
 /// The word once its section has ended.
-fn closed(cell: Cell) -> Cell
+fn close(cell: Cell) -> Cell
     ensures { result ≡ closed cell }
 {
     Cell {
         stored: None,
-        effect: joined(cell.effect, effect_of(cell.stored)),
+        effect: join(cell.effect, effect_of(cell.stored)),
     }
 }
 
 /// What is known of a word after sections that did this to it.
-pub(crate) fn applied(effect: Effect, value: Value) -> Value
+pub(crate) fn apply(effect: Effect, value: Value) -> Value
     ensures { result ≡ applied effect value }
 {
     let varying = Value {
@@ -165,7 +165,7 @@ pub(crate) fn close_all(cells: &mut [Cell])
     ensures { cells.new ≡ map closed cells.old }
 {
     for place in 0..cells.len() {
-        cells[place] = closed(cells[place]);
+        cells[place] = close(cells[place]);
     }
 }
 
@@ -178,7 +178,7 @@ pub(crate) fn close_listed(cells: &mut [Cell], place: &Place<'_>, lock: u32, lis
         let word = WordId(*word);
         if place.is_shared(word) && guards(place.decl, lock, word) {
             let index = word.0 as usize;
-            cells[index] = closed(cells[index]);
+            cells[index] = close(cells[index]);
         }
     }
 }

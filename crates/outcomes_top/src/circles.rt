@@ -63,7 +63,7 @@ fn rows_of(all: &[Outline<'_>]) -> [u32; 32]
 }
 
 /// The locks to which ways lead from a lock, with those to which `through` leads, if one of the ways comes to it.
-fn passed(row: u32, through: u32, lock: u32) -> u32
+fn pass_through(row: u32, through: u32, lock: u32) -> u32
     requires { lock < 32 }
     ensures { (b : ℕ) → is_held result b ≡ (is_held row b || (is_held row lock && is_held through b)) }
 {
@@ -84,7 +84,7 @@ fn add_through(rows: &mut [u32], lock: u32)
 {
     let through = rows[lock as usize];
     for from in 0..32 {
-        rows[from] = passed(rows[from], through, lock);
+        rows[from] = pass_through(rows[from], through, lock);
     }
 }
 

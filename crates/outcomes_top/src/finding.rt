@@ -30,7 +30,7 @@ fn all_known(alloc: Global, memory: &[u32]) -> Result<Vec<Value>, Memory>
 }
 
 /// The answer where the run is over.
-fn settled(now: Settled) -> Outcomes
+fn outcomes_of(now: Settled) -> Outcomes
     ensures { result ≡ settled_with now.ends now.memory.items }
 {
     let Settled { ends, memory } = now;
@@ -63,11 +63,11 @@ fn outcomes_by(
     for (number, phase) in program.phases.as_slice().iter().enumerate() {
         match now.go_on(alloc, program, code, fuel, PhaseId(number as u32), phase)? {
             Progress::Open { open } => return Ok(Outcomes::Open { open }),
-            Progress::Over => return Ok(settled(now)),
+            Progress::Over => return Ok(outcomes_of(now)),
             Progress::Goes => {}
         }
     }
-    Ok(settled(now))
+    Ok(outcomes_of(now))
 }
 
 /// What every run of a checked program has in common: its outcome, how each task ends, and what is known of each word, where they

@@ -130,7 +130,7 @@ fn merged_kind(before: Kind, kind: Kind) -> Kind
 
 /// What is known of a word after a store, of which `before` was known before.
 #[inline(always)]
-pub(crate) fn stored(
+pub(crate) fn value_stored(
     kinds: &[Kind; 32],
     shared: bool,
     word: WordId,

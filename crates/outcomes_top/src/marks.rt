@@ -14,7 +14,7 @@ use region_table::{Interval, Phase, TaskDecl, WordSet};
 const SEVERAL: u8 = 255;
 
 /// The mark of a word that this core may write too.
-fn marked(before: u8, core: u32) -> u8
+fn mark_for(before: u8, core: u32) -> u8
     requires { core < 16 }
     ensures { (c : ℕ) → c < 16 → is_of_other result c ≡ (is_of_other before c || not (core == c)) }
 {
@@ -33,7 +33,7 @@ fn mark_interval(marks: &mut [u8], interval: Interval, core: u32)
     ensures { AreMarkedFor marks.old marks.new core (in_interval interval) }
 {
     for word in interval.lo..interval.hi {
-        marks[word as usize] = marked(marks[word as usize], core);
+        marks[word as usize] = mark_for(marks[word as usize], core);
     }
 }
 

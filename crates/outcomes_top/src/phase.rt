@@ -14,7 +14,7 @@ ghost use Rattle.outcomes_top.specs.Marks.{TellShared};
 ghost use Rattle.outcomes_top.specs.Effects.{effect_at, AreEffectsOf, without_words, outline_alone, answer_after};
 
 use crate::alone::{TaskAlone, run_alone};
-use crate::cells::{Place, applied, joined};
+use crate::cells::{Place, apply, join};
 use crate::circles::first_stuck;
 use crate::marks::mark_all;
 use crate::summary::{Outline, end_of, first_held, have_finished, open_control};
@@ -31,7 +31,7 @@ fn join_all(effects: &mut [Effect], cells: &[Cell])
     ensures each { (w : ℕ) → w < length effects.old → effect_at effects.new w ≡ joined_effect (effect_at effects.old w) (cell_at cells.now w).effect }
 {
     for place in 0..cells.len() {
-        effects[place] = joined(effects[place], cells[place].effect);
+        effects[place] = join(effects[place], cells[place].effect);
     }
 }
 
@@ -43,7 +43,7 @@ fn apply_all(memory: &mut Vec<Value>, effects: &[Effect])
         → slice_index_or memory.new.items w (known 0) ≡ applied (effect_at effects.now w) (slice_index_or memory.old.items w (known 0)) }
 {
     for place in 0..effects.len() {
-        memory[place] = applied(effects[place], memory[place]);
+        memory[place] = apply(effects[place], memory[place]);
     }
 }
 

@@ -114,7 +114,7 @@ pub(crate) fn first_held(phase: PhaseId, all: &[Outline<'_>]) -> Option<Open>
 }
 
 /// How a task is shown.
-fn shown(end: Option<End>) -> EndShown
+fn end_shown(end: Option<End>) -> EndShown
     ensures { result ≡ shown_or end }
 {
     match end {
@@ -130,7 +130,7 @@ pub(crate) fn end_of(phase: PhaseId, outline: &Outline<'_>) -> TaskEnd
     TaskEnd {
         phase,
         core: outline.decl.core,
-        end: shown(outline.state.end),
+        end: end_shown(outline.state.end),
         retired: outline.state.retired,
     }
 }

@@ -31,7 +31,7 @@ fn known_words(alloc: Global, memory: &[Value]) -> Result<Sequence<u32>, Memory>
 }
 
 /// The ends of these tasks.
-fn copied(alloc: Global, ends: &[TaskEnd]) -> Result<Sequence<TaskEnd>, Memory>
+fn copy_ends(alloc: Global, ends: &[TaskEnd]) -> Result<Sequence<TaskEnd>, Memory>
     ensures { IfOk result (λ copy. copy ≡ ends.now) }
 {
     Ok(Sequence::from_vec(Vec::from_slice(alloc, ends)?))
@@ -43,7 +43,7 @@ fn printed_ending(alloc: Global, common: &Common) -> Result<Ending, Memory>
 {
     Ok(Ending {
         outcome: common.outcome,
-        tasks: copied(alloc, common.tasks.as_slice())?,
+        tasks: copy_ends(alloc, common.tasks.as_slice())?,
         memory: known_words(alloc, common.memory.as_slice())?,
     })
 }

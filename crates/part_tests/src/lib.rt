@@ -1,5 +1,5 @@
-//! Tests of the ground, the language, the machine's parts, the halls and the machine of one thread. They are a crate of their own, since
-//! a crate is proved once more with its tests.
+//! Tests of the ground, the language, the machine's parts, the halls and the machines of one thread and of several. They are a crate of
+//! their own, since a crate is proved once more with its tests.
 #![tactic(auto)]
 
 #[cfg(test)]

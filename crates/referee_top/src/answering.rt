@@ -8,7 +8,7 @@ ghost use Rattle.text_places.specs.Places.{text_places};
 ghost use Rattle.referee_top.specs.declared.mode.RefereeMode.TheVariants as mode;
 ghost use Rattle.referee_top.specs.Answers.{IsAnswer, IsJudged, IsDiagnosed, IsSettledJudged, IsPlainDocument, IsNotPlain, surplus, IsOrdered, IsLeastReply, IsTooLarge, IsUnwritten, mode_done, refused_with, verdict_reply, verdict_status, claim_reply};
 
-use crate::documents::{claim_in, order_in, places_of, question_in, refused};
+use crate::documents::{claim_in, order_in, places_of, question_in, refusal_of};
 use crate::mode::RefereeMode;
 use crate::settled::judge_settled;
 use crate::status::RefereeStatus;
@@ -68,13 +68,13 @@ fn write(alloc: Global, claim: &Claim) -> Result<Reply, Stop>
             status: RefereeStatus::Agrees,
             bytes: Sequence::from_vec(document),
         }),
-        Err(ClaimTextError::TooLarge) => Err(refused(alloc, ClaimFault::TooLarge)),
+        Err(ClaimTextError::TooLarge) => Err(refusal_of(alloc, ClaimFault::TooLarge)),
         Err(ClaimTextError::Memory) => Err(Stop::Memory),
     }
 }
 
 /// The verdict on a claim.
-fn judged(alloc: Global, checked: &Checked, claim: &Claim) -> Result<Reply, Memory>
+fn judge_claim(alloc: Global, checked: &Checked, claim: &Claim) -> Result<Reply, Memory>
     requires { IsJudgeable claim.now }
     ensures { IfOk result (IsJudged checked.now claim.now) }
 {
@@ -83,7 +83,7 @@ fn judged(alloc: Global, checked: &Checked, claim: &Claim) -> Result<Reply, Memo
 }
 
 /// The verdict on a claim, and what leads from it to the fault, by the places of the claim's text.
-fn diagnosed(
+fn diagnose_claim(
     alloc: Global,
     checked: &Checked,
     places: &Places,
@@ -119,7 +119,7 @@ fn surplus(claim: &Claim) -> Option<ClaimFault>
 }
 
 /// What is said of a claimed answer beside what all runs have in common.
-fn settled(alloc: Global, checked: &Checked, claim: &Claim) -> Result<Reply, Memory>
+fn settle_claim(alloc: Global, checked: &Checked, claim: &Claim) -> Result<Reply, Memory>
     requires { IsJudgeable claim.now }
     ensures { IfOk result (IsSettledJudged checked.now claim.now) }
 {
@@ -136,7 +136,7 @@ fn settled(alloc: Global, checked: &Checked, claim: &Claim) -> Result<Reply, Mem
 }
 
 /// The claim of the run by the grants of an order.
-fn ordered(alloc: Global, checked: &Checked, order: GrantOrder) -> Result<Reply, Stop>
+fn run_by_order(alloc: Global, checked: &Checked, order: GrantOrder) -> Result<Reply, Stop>
     requires { IsOrder order }
     ensures done { IfOk result (IsOrdered checked.now order) }
     ensures stop { IfErr result (IsStop (IsUnwritten (IsRightClaim checked.now order.question order.grants))) }
@@ -168,7 +168,7 @@ fn judge_document(alloc: Global, document: &[u8]) -> Result<Reply, Stop>
 {
     let claim = claim_in(alloc, document)?;
     let checked = checked_of(alloc, claim.question.text.as_slice())?;
-    Ok(judged(alloc, &checked, &claim)?)
+    Ok(judge_claim(alloc, &checked, &claim)?)
 }
 
 /// Judges the claim of a run log, and says what leads from the verdict to the fault.
@@ -179,7 +179,7 @@ fn diagnose_document(alloc: Global, document: &[u8]) -> Result<Reply, Stop>
     let claim = claim_in(alloc, document)?;
     let checked = checked_of(alloc, claim.question.text.as_slice())?;
     let places = places_of(alloc, claim.question.text.as_slice())?;
-    Ok(diagnosed(alloc, &checked, &places, &claim)?)
+    Ok(diagnose_claim(alloc, &checked, &places, &claim)?)
 }
 
 /// The claim of a run log that says nothing of grants and loads.
@@ -194,7 +194,7 @@ fn plain_claim_in(alloc: Global, document: &[u8]) -> Result<Claim, Stop>
     let claim = claim_in(alloc, document)?;
     match surplus(&claim) {
         None => Ok(claim),
-        Some(fault) => Err(refused(alloc, fault)),
+        Some(fault) => Err(refusal_of(alloc, fault)),
     }
 }
 
@@ -205,7 +205,7 @@ fn settled_document(alloc: Global, document: &[u8]) -> Result<Reply, Stop>
 {
     let claim = plain_claim_in(alloc, document)?;
     let checked = checked_of(alloc, claim.question.text.as_slice())?;
-    Ok(settled(alloc, &checked, &claim)?)
+    Ok(settle_claim(alloc, &checked, &claim)?)
 }
 
 /// Writes the claim of the run that goes by the grants of a run log.
@@ -215,7 +215,7 @@ fn answer_document(alloc: Global, document: &[u8]) -> Result<Reply, Stop>
 {
     let order = order_in(alloc, document)?;
     let checked = checked_of(alloc, order.question.text.as_slice())?;
-    ordered(alloc, &checked, order)
+    run_by_order(alloc, &checked, order)
 }
 
 /// Writes the claim of the run that goes by the least grants.

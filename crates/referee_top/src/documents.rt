@@ -17,7 +17,7 @@ use std::alloc::Global;
 use text_places::{Places, located_program};
 
 /// The refusal of a run log, read or to be written, for this fault, which isn't out of memory.
-pub(crate) fn refused(alloc: Global, fault: ClaimFault) -> Stop
+pub(crate) fn refusal_of(alloc: Global, fault: ClaimFault) -> Stop
     requires { fault ≢ NoMemory }
     ensures { IsStop (λ line. line ≡ refusal_text fault) result }
 {
@@ -38,7 +38,7 @@ pub(crate) fn claim_in(alloc: Global, document: &[u8]) -> Result<Claim, Stop>
     match read_claim(alloc, document) {
         Ok(claim) => Ok(claim),
         Err(ClaimFault::Memory) => Err(Stop::Memory),
-        Err(fault) => Err(refused(alloc, fault)),
+        Err(fault) => Err(refusal_of(alloc, fault)),
     }
 }
 
@@ -53,7 +53,7 @@ pub(crate) fn order_in(alloc: Global, document: &[u8]) -> Result<GrantOrder, Sto
     match read_order(alloc, document) {
         Ok(order) => Ok(order),
         Err(ClaimFault::Memory) => Err(Stop::Memory),
-        Err(fault) => Err(refused(alloc, fault)),
+        Err(fault) => Err(refusal_of(alloc, fault)),
     }
 }
 
@@ -68,7 +68,7 @@ pub(crate) fn question_in(alloc: Global, document: &[u8]) -> Result<Question, St
     match read_question(alloc, document) {
         Ok(question) => Ok(question),
         Err(ClaimFault::Memory) => Err(Stop::Memory),
-        Err(fault) => Err(refused(alloc, fault)),
+        Err(fault) => Err(refusal_of(alloc, fault)),
     }
 }
 

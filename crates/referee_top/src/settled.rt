@@ -153,7 +153,7 @@ fn zeros(alloc: Global, memory: &[Value]) -> Result<Sequence<u32>, Memory>
 }
 
 /// The ends of these tasks.
-fn copied(alloc: Global, ends: &[TaskEnd]) -> Result<Sequence<TaskEnd>, Memory>
+fn copy_ends(alloc: Global, ends: &[TaskEnd]) -> Result<Sequence<TaskEnd>, Memory>
     ensures { IfOk result (λ copy. copy ≡ ends.now) }
 {
     Ok(Sequence::from_vec(Vec::from_slice(alloc, ends)?))
@@ -165,7 +165,7 @@ fn settled_front(alloc: Global, common: &Common) -> Result<Vec<u8>, Memory>
     requires tasks { length common.now.tasks ≤ 64 }
     ensures { IfOk result (λ front. front.items ≡ settled_front common.now) }
 {
-    let tasks = copied(alloc, common.tasks.as_slice())?;
+    let tasks = copy_ends(alloc, common.tasks.as_slice())?;
     let memory = zeros(alloc, common.memory.as_slice())?;
     let ending = Ending {
         outcome: common.outcome,

@@ -10,7 +10,7 @@ use program_outside::{WordsFault, matches_by};
 use std::alloc::Global;
 
 /// The mode of this name.
-fn named(text: &str) -> Option<RefereeMode>
+fn mode_named(text: &str) -> Option<RefereeMode>
     ensures { result ≡ referee_mode_named text.now }
 {
     match text {
@@ -53,7 +53,7 @@ fn mode(matches: &ArgMatches<'_>) -> Option<RefereeMode>
     ensures { result ≡ referee_mode_in (rows_of (found_of matches.now)) }
 {
     match mode_text(matches) {
-        Some(text) => named(text),
+        Some(text) => mode_named(text),
         None => None,
     }
 }

@@ -66,7 +66,10 @@ fn add_set(
 }
 
 /// Every word that a cache has.
-pub(crate) fn cached(alloc: Global, cache: &WordCache) -> Result<Sequence<EntryBefore>, Memory>
+pub(crate) fn cached_words(
+    alloc: Global,
+    cache: &WordCache,
+) -> Result<Sequence<EntryBefore>, Memory>
     ensures { IfOk result (λ entries. entries ≡ cached cache.now) }
 {
     let mut entries = Sequence::new(alloc);
@@ -104,14 +107,14 @@ fn words_of_message(
         Message::RegAck { word } => one_word(alloc, node, word),
         Message::RegFwd { word, .. } => one_word(alloc, node, word),
         Message::WbAck { word } => one_word(alloc, node, word),
-        Message::Grant { .. } => cached(alloc, node.cache()),
-        Message::Go { .. } => cached(alloc, node.cache()),
+        Message::Grant { .. } => cached_words(alloc, node.cache()),
+        Message::Go { .. } => cached_words(alloc, node.cache()),
         _ => Ok(Sequence::new(alloc)),
     }
 }
 
 /// A copy of signatures.
-fn copied(alloc: Global, signatures: &[Signature]) -> Result<Sequence<Signature>, Memory>
+fn copy_signatures(alloc: Global, signatures: &[Signature]) -> Result<Sequence<Signature>, Memory>
     ensures { IfOk result (λ copies. copies ≡ signatures.now) }
 {
     Ok(Sequence::from_vec(Vec::from_slice(alloc, signatures)?))
@@ -132,7 +135,7 @@ fn look_at_node(
         task: node.task().copied(),
         needs,
         wait: node.wait(),
-        signatures: copied(alloc, node.signatures())?,
+        signatures: copy_signatures(alloc, node.signatures())?,
         arrived: node.has_arrived(),
         halted: node.has_halted(),
         entries,

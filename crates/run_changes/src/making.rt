@@ -124,7 +124,7 @@ fn sent_from(alloc: Global, pool: &Pool, left: u32) -> Result<Sequence<Outgoing>
 
 /// Tells what an event did: what it changed, by what was looked at before it, and which messages stand after those that were
 /// left.
-fn told(
+fn change_of(
     alloc: Global,
     machine: &Machine,
     look: &Look,
@@ -164,7 +164,7 @@ fn make_looked_at(
     let left = count_left_by(machine.pool(), event);
     match machine.try_step(event)? {
         None => Ok(None),
-        Some(came) => Ok(Some(told(alloc, machine, look, left, came)?)),
+        Some(came) => Ok(Some(change_of(alloc, machine, look, left, came)?)),
     }
 }
 

@@ -11,7 +11,7 @@ ghost use Rattle.run_changes.specs.Since.{changes_of, held_from, end_since, task
 use crate::banks::{note_barrier, note_home, note_queue};
 use crate::change::{ActorChanges, Change};
 use crate::look::{EntryBefore, LockLook};
-use crate::looking::cached;
+use crate::looking::cached_words;
 use crate::parts::{locks_held, note, note_entry, note_flag, note_locks, note_wait};
 use dn_base::{BankId, CoreId, LockId, MOST_WORDS, Memory, PhaseId, Sequence, WordId, remainder};
 use dn_machine::{Machine, a_machine_is_kept};
@@ -40,7 +40,7 @@ fn add_entries(out: &mut Vec<Change>, entries: &[EntryBefore]) -> Result<(), Mem
 fn note_cache(alloc: Global, out: &mut Vec<Change>, cache: &WordCache) -> Result<(), Memory>
     ensures { OnOk result (out.new.items ≡ out.old.items ++ held_from cache.now 0 cache.now.sets) }
 {
-    let entries = cached(alloc, cache)?;
+    let entries = cached_words(alloc, cache)?;
     add_entries(out, entries.as_slice())
 }
 

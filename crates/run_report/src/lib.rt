@@ -15,5 +15,5 @@ pub use answer::{answer_text, kind_name, outcome_name, push_end};
 pub use grants::grant_text;
 pub use programs::{Stop, checked_of, program_of};
 pub use refusal::{Refusal, refusal_line};
-pub use run::{event_name, report};
-pub use totals::{checked_line, summary};
+pub use run::{all_kinds, event_count, event_name, report};
+pub use totals::{checked_line, retired_by_all, summary};

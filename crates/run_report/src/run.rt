@@ -12,7 +12,7 @@ use text_pieces::{push, push_long};
 
 /// The kinds of event, in the order in which their counts are printed.
 #[tactic(auto, unfolding(crate::specs::Run::all_kinds))]
-fn kinds() -> [EventKind; 17]
+pub fn all_kinds() -> [EventKind; 17]
     ensures { result ≡ all_kinds }
 {
     [
@@ -84,7 +84,7 @@ fn push_kinds(out: &mut Vec<u8>, counts: &Counts, kinds: &[EventKind]) -> Result
 }
 
 /// How many events of all kinds there were.
-fn events(kinds: &[u64]) -> u64
+pub fn event_count(kinds: &[u64]) -> u64
     requires { sum kinds.now < 18446744073709551616 }
     ensures { result ≡ sum kinds.now }
 {
@@ -95,8 +95,8 @@ fn push_counts(out: &mut Vec<u8>, counts: &Counts) -> Result<(), Memory>
     requires { sum counts.now.kinds < 18446744073709551616 }
     ensures { OnOk result (out.new.items ≡ out.old.items ++ counts_text counts.now) }
 {
-    push_event(out, b"events", events(&counts.kinds))?;
-    push_kinds(out, counts, &kinds())
+    push_event(out, b"events", event_count(&counts.kinds))?;
+    push_kinds(out, counts, &all_kinds())
 }
 
 /// The answer of a run, and then how it was made: a line for each grant of a lock, in order, and lines with the number of

@@ -10,7 +10,7 @@ use std::alloc::Global;
 use text_pieces::{push, push_decimal, push_hexadecimal, push_long};
 
 /// The instructions that all tasks retired.
-fn retired(tasks: &[TaskEnd]) -> u64
+pub fn retired_by_all(tasks: &[TaskEnd]) -> u64
     requires { length tasks.now ≤ 64 }
     ensures { result ≡ retired_by_all tasks.now }
 {
@@ -73,7 +73,11 @@ pub fn summary(alloc: Global, ending: &Ending) -> Result<Vec<u8>, Memory>
     let mut out = Vec::new(alloc);
     push_outcome(&mut out, ending.outcome)?;
     push_line(&mut out, b"tasks ", ending.tasks.len() as u64)?;
-    push_line(&mut out, b"retired ", retired(ending.tasks.as_slice()))?;
+    push_line(
+        &mut out,
+        b"retired ",
+        retired_by_all(ending.tasks.as_slice()),
+    )?;
     push_count(&mut out, ending.memory.len() as u32)?;
     push_sum(&mut out, ending.memory.as_slice())?;
     Ok(out)

@@ -20,7 +20,7 @@ impl Model for Befores {
 }
 
 /// The number that is stored for an event, or for none.
-fn kept(event: Option<u32>) -> u32
+fn stored_number(event: Option<u32>) -> u32
     requires { (i : ℕ) → event ≡ Some i → i < 4294967295 }
     ensures { decoded_before result ≡ event }
 {
@@ -61,7 +61,7 @@ impl Befores {
         requires { (i : ℕ) → before ≡ Some i → i < 4294967295 }
         ensures { OnOk result (self.new ≡ self.old ++ before ∷ []) }
     {
-        self.numbers.push(kept(before))
+        self.numbers.push(stored_number(before))
     }
 
     /// The event after which this one comes.

@@ -13,7 +13,7 @@ use Rattle.rv_assembler.specs.declared.draft.Usage.TheVariants.{Reads, Writes, G
 use Rattle.rv_assembler.specs.declared.draft.Claim.{Claim}
 use Rattle.rv_assembler.specs.Union.{united}
 use Rattle.rv_assembler.specs.Program.{is_claim_of, is_task}
-use Rattle.rv_assembler.specs.Named.{guarded_usage}
+use Rattle.rv_assembler.specs.Named.{under_lock}
 use Rattle.rv_assembler.specs.Finishing.{interval_within}
 
 -- the number of a usage among those of a task; with the most locks there are 66
@@ -70,7 +70,7 @@ words_by_rows rows t usage = united (intervals_at rows (claim_row t.phase t.core
 
 -- the words that a task claims under a lock, to read or to write
 abbrev pub guarded_by_rows : List (List Interval) → Start → Bool → ℕ → List Interval
-guarded_by_rows rows t writes lock = words_by_rows rows t (guarded_usage writes lock)
+guarded_by_rows rows t writes lock = words_by_rows rows t (under_lock writes lock)
 
 -- the effects of a task, from the rows
 abbrev pub effects_by_rows : ℕ → List (List Interval) → Start → Effects

@@ -41,13 +41,13 @@ task_entry text names t = entry_value names (bytes_of text t) t.kind
 abbrev pub plain_usage : Bool → Usage
 plain_usage writes = if writes then Writes else Reads
 
-abbrev pub guarded_usage : Bool → ℕ → Usage
-guarded_usage writes lock = if writes then GuardedWrites lock else GuardedReads lock
+abbrev pub under_lock : Bool → ℕ → Usage
+under_lock writes lock = if writes then GuardedWrites lock else GuardedReads lock
 
 -- how a task uses the words of an effect, if the lock is declared
 abbrev pub usage_by : List ℕ → (List ℕ → Option Meaning) → Bool → Option Token → Option Usage
 usage_by text names writes None = Some (plain_usage writes)
-usage_by text names writes (Some lock) = option_map (guarded_usage writes) (lock_number (names (bytes_of text lock)))
+usage_by text names writes (Some lock) = option_map (under_lock writes) (lock_number (names (bytes_of text lock)))
 
 abbrev pub usage_of : List ℕ → (List ℕ → Option Meaning) → Effect → Option Usage
 usage_of text names e = usage_by text names e.writes e.lock

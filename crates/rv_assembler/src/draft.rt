@@ -6,12 +6,12 @@ ghost use Rattle.rv_assembler.specs.Operand.{bytes_of};
 ghost use Rattle.rv_assembler.specs.Number.{wrapped};
 ghost use Rattle.rv_assembler.specs.Gathering.{more};
 ghost use Rattle.rv_assembler.specs.Adding.{no_draft, with_tasks, draft_with, draft_after};
-ghost use Rattle.rv_assembler.specs.Named.{region_span, lock_number, plain_usage, guarded_usage, usage_of};
+ghost use Rattle.rv_assembler.specs.Named.{region_span, lock_number, plain_usage, under_lock, usage_of};
 ghost use Rattle.rv_assembler.specs.Drafting.{wrapped_entry, members, extent_start, past_word, step_of, claimed, claims_for, values_for};
 
 use crate::emission::{Emission, label_address};
-use crate::names::{Count, Meaning, NO_COUNT, Names, counted, meaning_of};
-use crate::number::{more, wrapped};
+use crate::names::{Count, Meaning, NO_COUNT, Names, count_behind, meaning_of};
+use crate::number::{more, wrap};
 use crate::operand::bytes;
 use crate::statement::{Effect, Extent, Family, Statement};
 use dn_base::{Memory, Name, Sequence};
@@ -123,7 +123,7 @@ fn entry<'a>(text: &'a [u8], names: &Names<'a>, target: Token) -> u32
     ensures { result ≡ wrapped_entry text.now (name_lookup names.now) target }
 {
     if let TokenKind::Number(number) = target.kind {
-        return wrapped(number);
+        return wrap(number);
     }
     match meaning_of(text, names, target) {
         Some(Meaning::Label { place, .. }) => label_address(place),
@@ -140,8 +140,8 @@ impl Usage {
     }
 
     /// How a task uses words while it holds a lock.
-    pub(crate) fn guarded(writes: bool, lock: u32) -> Usage
-        ensures { result ≡ guarded_usage writes lock }
+    pub(crate) fn under_lock(writes: bool, lock: u32) -> Usage
+        ensures { result ≡ under_lock writes lock }
     {
         if writes {
             Usage::GuardedWrites(lock)
@@ -158,7 +158,7 @@ fn usage_in<'a>(text: &'a [u8], names: &Names<'a>, effect: Effect) -> Option<Usa
     match effect.lock {
         None => Some(Usage::plain(effect.writes)),
         Some(lock) => match lock_named(text, names, lock) {
-            Some(number) => Some(Usage::guarded(effect.writes, number)),
+            Some(number) => Some(Usage::under_lock(effect.writes, number)),
             None => None,
         },
     }
@@ -170,8 +170,8 @@ fn first_word(span: Span, extent: Extent) -> u32
 {
     match extent {
         Extent::Whole => span.start,
-        Extent::Part { lo, hi: _ } => span.start.wrapping_add(wrapped(lo)),
-        Extent::Stepped { lo, hi: _, step: _ } => span.start.wrapping_add(wrapped(lo)),
+        Extent::Part { lo, hi: _ } => span.start.wrapping_add(wrap(lo)),
+        Extent::Stepped { lo, hi: _, step: _ } => span.start.wrapping_add(wrap(lo)),
     }
 }
 
@@ -180,9 +180,9 @@ fn past_word(span: Span, extent: Extent) -> u32
     ensures { result ≡ past_word span extent }
 {
     match extent {
-        Extent::Whole => span.start.wrapping_add(wrapped(span.len)),
-        Extent::Part { lo: _, hi } => span.start.wrapping_add(wrapped(hi)),
-        Extent::Stepped { lo: _, hi, step: _ } => span.start.wrapping_add(wrapped(hi)),
+        Extent::Whole => span.start.wrapping_add(wrap(span.len)),
+        Extent::Part { lo: _, hi } => span.start.wrapping_add(wrap(hi)),
+        Extent::Stepped { lo: _, hi, step: _ } => span.start.wrapping_add(wrap(hi)),
     }
 }
 
@@ -191,7 +191,7 @@ fn step(extent: Extent) -> u32
     ensures { result ≡ step_of extent }
 {
     match extent {
-        Extent::Stepped { step, .. } => wrapped(step),
+        Extent::Stepped { step, .. } => wrap(step),
         _ => 0,
     }
 }
@@ -278,7 +278,7 @@ impl Draft {
         let region = Region {
             name: Name::new(alloc, name)?,
             start: self.count.words,
-            len: wrapped(len),
+            len: wrap(len),
         };
         self.regions.push(region)
     }
@@ -296,7 +296,7 @@ impl Draft {
         match span {
             None => Ok(()),
             Some(span) => self.values.push(FirstValue {
-                word: span.start.wrapping_add(wrapped(index)),
+                word: span.start.wrapping_add(wrap(index)),
                 value,
             }),
         }
@@ -307,14 +307,14 @@ impl Draft {
     {
         let first = Start {
             phase: self.phases,
-            core: wrapped(family.core),
+            core: wrap(family.core),
             entry,
             arg: family.arg,
         };
-        let count = wrapped(family.count);
+        let count = wrap(family.count);
         push_members(&mut self.tasks, first, family.step, count)?;
         self.family = Cores {
-            first: wrapped(family.core),
+            first: wrap(family.core),
             count,
         };
         Ok(())
@@ -395,7 +395,7 @@ impl Draft {
         requires { emission ≡ emission_at text.now (name_lookup names.now) self.old.count.code statement.now }
         ensures { OnOk result (self.new ≡ draft_after text.now (name_lookup names.now) self.old statement.now) }
     {
-        let count = counted(&self.count, statement);
+        let count = count_behind(&self.count, statement);
         self.extend(alloc, text, names, statement, emission)?;
         self.count = count;
         Ok(())

@@ -10,7 +10,7 @@ ghost use Rattle.rv_assembler.specs.AddedLine.{emission_at};
 ghost use Rattle.rv_isa.specs.declared.instr.Instr.TheVariants.{Lui, Auipc, Jal, Jalr, Branch, Load, Store, OpImm, Op};
 
 use crate::names::{Meaning, Names};
-use crate::number::{is_branch, is_immediate, is_jump, is_operand, is_upper, wrapped};
+use crate::number::{is_branch, is_immediate, is_jump, is_operand, is_upper, wrap};
 use crate::operand::bytes;
 use crate::statement::{Code, Statement};
 use region_table::{FIRST_CODE_ADDRESS, FIRST_DATA_ADDRESS};
@@ -34,7 +34,7 @@ fn upper(adds_pc: bool, rd: Reg, number: i64) -> Emission
     if !is_upper(number) {
         return Emission::OutOfRange;
     }
-    let imm = wrapped(number);
+    let imm = wrap(number);
     if adds_pc {
         Emission::One(encode(&Instr::Auipc { rd, imm }))
     } else {
@@ -156,7 +156,7 @@ fn low(value: u32) -> i32
 }
 
 /// Two words that load a value: LUI, and ADDI, which adds the low bits as a signed number.
-fn loaded(rd: Reg, value: u32) -> Emission
+fn load_value(rd: Reg, value: u32) -> Emission
     ensures { result ≡ loaded rd value }
 {
     let first = Instr::Lui {
@@ -211,8 +211,8 @@ fn loaded_address<'a>(text: &'a [u8], names: &Names<'a>, rd: Reg, name: Token) -
     ensures { result ≡ loaded_address rd (name_lookup names.now (bytes_of text.now name)) }
 {
     match names.meaning(bytes(text, name)) {
-        Some(Meaning::Label { place, .. }) => loaded(rd, label_address(place)),
-        Some(Meaning::Region { start, .. }) => loaded(rd, region_address(start)),
+        Some(Meaning::Label { place, .. }) => load_value(rd, label_address(place)),
+        Some(Meaning::Region { start, .. }) => load_value(rd, region_address(start)),
         _ => Emission::Unknown,
     }
 }
@@ -253,9 +253,9 @@ fn emit<'a>(text: &'a [u8], names: &Names<'a>, here: u32, code: Code) -> Emissio
         Code::Fence => Emission::One(encode(&Instr::Fence)),
         Code::Ecall => Emission::One(encode(&Instr::Ecall)),
         Code::Ebreak => Emission::One(encode(&Instr::Ebreak)),
-        Code::LoadNumber { rd, number } => loaded(rd, wrapped(number)),
+        Code::LoadNumber { rd, number } => load_value(rd, wrap(number)),
         Code::LoadAddress { rd, name } => loaded_address(text, names, rd, name),
-        Code::Raw { number } => Emission::One(wrapped(number)),
+        Code::Raw { number } => Emission::One(wrap(number)),
     }
 }
 

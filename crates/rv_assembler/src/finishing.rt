@@ -65,7 +65,7 @@ fn guarded_words(
 {
     let mut sets = Sequence::new(alloc);
     for lock in 0..locks {
-        sets.push(words_of(alloc, words, rows, task, Usage::guarded(writes, lock))?)?;
+        sets.push(words_of(alloc, words, rows, task, Usage::under_lock(writes, lock))?)?;
     }
     Ok(sets)
 }
@@ -90,7 +90,7 @@ fn effects_in(
     })
 }
 
-fn declared(
+fn declare_task(
     alloc: Global,
     words: u32,
     locks: u32,
@@ -141,7 +141,7 @@ fn push_task(
 {
     match task {
         None => Ok(()),
-        Some(task) => tasks.push(declared(alloc, words, locks, rows, task)?),
+        Some(task) => tasks.push(declare_task(alloc, words, locks, rows, task)?),
     }
 }
 
@@ -240,7 +240,7 @@ fn make_tables(alloc: Global, draft: &Draft) -> Result<Made, Memory>
 }
 
 /// The program of a draft and of the tables that are made from it.
-fn joined(draft: Draft, made: Made) -> Program
+fn program_from(draft: Draft, made: Made) -> Program
     requires program { IsProgram (finished_program draft) }
     requires memory { made.memory.items ≡ (finished_program draft).memory }
     requires phases { made.phases ≡ (finished_program draft).phases }
@@ -276,5 +276,5 @@ pub(crate) fn finish(alloc: Global, draft: Draft) -> Result<Program, Memory>
     ensures { IfOk result (λ program. program ≡ finished_program draft) }
 {
     let made = make_tables(alloc, &draft)?;
-    Ok(joined(draft, made))
+    Ok(program_from(draft, made))
 }

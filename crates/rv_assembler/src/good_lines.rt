@@ -5,7 +5,7 @@ ghost use Rattle.rv_assembler.specs.Counts.{code_size};
 
 use crate::draft::Cores;
 use crate::names::size;
-use crate::number::wrapped;
+use crate::number::wrap;
 use crate::statement::{Family, Statement};
 
 /// How many code words a statement gives: none, one, or two.
@@ -23,7 +23,7 @@ pub fn family_cores(family: Family) -> Cores
     ensures { result ≡ record { first = wrapped family.core; count = wrapped family.count } }
 {
     Cores {
-        first: wrapped(family.core),
-        count: wrapped(family.count),
+        first: wrap(family.core),
+        count: wrap(family.count),
     }
 }

@@ -9,7 +9,7 @@ ghost use Rattle.rv_assembler.specs.Size.{code_word_count};
 ghost use Rattle.rv_assembler.specs.Counts.{region_words};
 ghost use Rattle.rv_assembler.specs.Gathering.{no_count, count_behind, count_after, label_means, name_means, declared_by, meaning_in};
 
-use crate::number::{is_length, more, wrapped};
+use crate::number::{is_length, more, wrap};
 use crate::operand::bytes;
 use crate::parsing::{Reading, Saying};
 use crate::statement::{Code, Statement};
@@ -63,11 +63,11 @@ pub(crate) fn size(code: Code) -> u32
 fn length(len: i64) -> u32
     ensures { result ≡ region_words len }
 {
-    if is_length(len) { wrapped(len) } else { 0 }
+    if is_length(len) { wrap(len) } else { 0 }
 }
 
 /// The counts after a statement.
-pub(crate) fn counted(count: &Count, statement: &Statement) -> Count
+pub(crate) fn count_behind(count: &Count, statement: &Statement) -> Count
     ensures { result ≡ count_behind count.now statement.now }
 {
     match *statement {
@@ -99,7 +99,7 @@ fn count_after(count: &Count, reading: &Reading) -> Count
 {
     match reading {
         Reading::Bad(_) => *count,
-        Reading::Good(saying) => counted(count, &saying.statement),
+        Reading::Good(saying) => count_behind(count, &saying.statement),
     }
 }
 

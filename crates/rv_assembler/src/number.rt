@@ -8,7 +8,7 @@ ghost use Rattle.rv_assembler.specs.Gathering.{more};
 use rv_isa::AluOp;
 
 /// A number modulo 2^32.
-pub(crate) fn wrapped(number: i64) -> u32
+pub(crate) fn wrap(number: i64) -> u32
     ensures { result ≡ wrapped number }
 {
     (number.cast_unsigned() % 4294967296) as u32

@@ -8,7 +8,7 @@ ghost use Rattle.rv_assembler.specs.Reading.{extent_for, directive_for, statemen
 use crate::coding::code_for;
 use crate::fault::SourceFault;
 use crate::kind::{Directive, Form, Kind};
-use crate::number::wrapped;
+use crate::number::wrap;
 use crate::operand::{bytes, number_at, token_at};
 use crate::shape::{is_name, is_plain, kind, knows};
 use crate::statement::{Effect, Extent, Family, Statement};
@@ -80,7 +80,7 @@ fn directive_for(operands: &[Token], directive: Directive) -> Statement
         Directive::Word => Statement::Word {
             region: token_at(operands, 0),
             index: number_at(operands, 2),
-            value: wrapped(number_at(operands, 4)),
+            value: wrap(number_at(operands, 4)),
         },
         Directive::Lock => Statement::Lock {
             name: token_at(operands, 0),
@@ -90,15 +90,15 @@ fn directive_for(operands: &[Token], directive: Directive) -> Statement
             core: number_at(operands, 0),
             count: 1,
             entry: token_at(operands, 2),
-            arg: wrapped(number_at(operands, 4)),
+            arg: wrap(number_at(operands, 4)),
             step: 0,
         }),
         Directive::Forall => Statement::Tasks(Family {
             core: number_at(operands, 0),
             count: number_at(operands, 2),
             entry: token_at(operands, 4),
-            arg: wrapped(number_at(operands, 6)),
-            step: wrapped(number_at(operands, 8)),
+            arg: wrap(number_at(operands, 6)),
+            step: wrap(number_at(operands, 8)),
         }),
         Directive::Uses { writes, form } => {
             Statement::Uses(effect_for(operands, writes, None, form, 0))
@@ -172,7 +172,7 @@ fn said(line: u32, statement: Result<Statement, SourceFault>) -> Reading
 }
 
 /// What a line with a label says; the label has to be a name that may be declared.
-fn labelled(
+fn label_line(
     text: &[u8],
     line: u32,
     label: Token,
@@ -209,7 +209,7 @@ fn read_tokens(version_2: bool, text: &[u8], line: u32, tokens: &[Token]) -> Rea
 {
     match tokens {
         [label, colon, rest @ ..] if is_label(*label, *colon) => {
-            labelled(text, line, *label, statement(version_2, text, line, rest))
+            label_line(text, line, *label, statement(version_2, text, line, rest))
         }
         _ => said(line, statement(version_2, text, line, tokens)),
     }

@@ -13,7 +13,7 @@ use crate::draft::{Draft, Span, Start, lock_named, region_named};
 use crate::emission::Emission;
 use crate::fault::SourceFault;
 use crate::names::{Count, Meaning, Names, meaning_of};
-use crate::number::{is_interval, is_length, wrapped};
+use crate::number::{is_interval, is_length, wrap};
 use crate::parsing::Saying;
 use crate::statement::{Effect, Extent, Family, Statement};
 use src_text::{Token, TokenKind};
@@ -83,7 +83,7 @@ fn word_far(span: Option<Span>, index: i64) -> bool
 fn is_address(number: i64) -> bool
     ensures { result ≡ is_address number }
 {
-    0 <= number && number < 0x1_0000_0000 && wrapped(number) % 4 == 0
+    0 <= number && number < 0x1_0000_0000 && wrap(number) % 4 == 0
 }
 
 /// Whether an entry is a number that is no address of a word.
@@ -186,7 +186,7 @@ fn name_doubled<'a>(text: &'a [u8], names: &Names<'a>, count: &Count, statement:
 }
 
 /// Whether a name that the line declares is declared before.
-fn doubled<'a>(text: &'a [u8], names: &Names<'a>, count: &Count, saying: &Saying) -> bool
+fn is_doubled<'a>(text: &'a [u8], names: &Names<'a>, count: &Count, saying: &Saying) -> bool
     ensures { result ≡ doubled_by_meaning text.now (name_lookup names.now) count.now saying.now }
 {
     if let Some(label) = saying.label {
@@ -231,7 +231,7 @@ fn no_region<'a>(text: &'a [u8], names: &Names<'a>, name: Token) -> bool
 }
 
 /// Whether a name isn't declared, or is of another kind.
-fn unknown<'a>(
+fn is_unknown<'a>(
     text: &'a [u8],
     names: &Names<'a>,
     here: u32,
@@ -278,7 +278,7 @@ fn core_in_use(tasks: &[Start], phase: u32, family: Family) -> bool
 }
 
 /// Whether the statement may not stand here.
-fn misplaced(draft: &Draft, statement: &Statement) -> bool
+fn is_misplaced(draft: &Draft, statement: &Statement) -> bool
     ensures { result ≡ misplaced draft.now statement.now }
 {
     match *statement {
@@ -324,13 +324,13 @@ pub(crate) fn early_fault<'a>(
     if out_of_range(text, names, draft, &saying.statement, emission) {
         return Some(SourceFault::OutOfRange { line });
     }
-    if doubled(text, names, &draft.count, saying) {
+    if is_doubled(text, names, &draft.count, saying) {
         return Some(SourceFault::DoubleName { line });
     }
-    if unknown(text, names, draft.count.code, &saying.statement, emission) {
+    if is_unknown(text, names, draft.count.code, &saying.statement, emission) {
         return Some(SourceFault::UnknownName { line });
     }
-    if misplaced(draft, &saying.statement) {
+    if is_misplaced(draft, &saying.statement) {
         return Some(SourceFault::Misplaced { line });
     }
     None

@@ -206,7 +206,7 @@ fn push_words(out: &mut Vec<u8>, code: &[u32]) -> Result<(), Memory>
 
 /// The text of a program that is well formed, with numbers of 32 bits and canonical sets of words.
 #[tactic(auto, unfolding(crate::specs::Listing::listed_lines))]
-fn written(alloc: Global, program: &Program) -> Result<Vec<u8>, Memory>
+fn program_text(alloc: Global, program: &Program) -> Result<Vec<u8>, Memory>
     ensures text { IfOk result (λ text. text.items ≡ listing_of program.now) }
     ensures well_formed { IfOk result (λ _. IsProgram program.now) }
     ensures words { IfOk result (λ _. HasWords program.now) }
@@ -239,6 +239,6 @@ pub fn listing(alloc: Global, program: &Program) -> Result<Vec<u8>, Memory>
     ensures text { IfOk result (λ text. text.items ≡ listing_of program.now) }
     ensures again { AreDeclaredNames (names_of program.now) → FitsSourceLimits (listed_lines program.now) → IfOk result (λ text. source text.items ≡ Ok program.now) }
 {
-    let text = written(alloc, program)?;
+    let text = program_text(alloc, program)?;
     Ok(text)
 }

@@ -46,7 +46,7 @@ pub(crate) fn with_task(node: &Node) -> Option<Reason>
 }
 
 /// What a core waits for.
-pub(crate) fn waiting(wait: NodeWait) -> Option<Reason>
+pub(crate) fn wait_reason(wait: NodeWait) -> Option<Reason>
     ensures { result ≡ wait_reason wait }
 {
     match wait {
@@ -57,7 +57,7 @@ pub(crate) fn waiting(wait: NodeWait) -> Option<Reason>
 }
 
 /// The word that has come for the next instruction.
-pub(crate) fn filled(wait: NodeWait) -> Option<Reason>
+pub(crate) fn fill_reason(wait: NodeWait) -> Option<Reason>
     ensures { result ≡ filled_reason wait }
 {
     match wait {
@@ -78,7 +78,7 @@ pub(crate) fn pending(node: &Node) -> Option<Reason>
 }
 
 /// Why a load or store of a word stalls.
-fn stalled(node: &Node, word: WordId) -> Option<Reason>
+fn stall_reason(node: &Node, word: WordId) -> Option<Reason>
     ensures { result ≡ access_reason node.now word (entry_of node.now word.0) }
 {
     match node.cache().probe(word) {
@@ -92,18 +92,18 @@ fn stalled(node: &Node, word: WordId) -> Option<Reason>
 }
 
 /// Why an instruction with this need stalls.
-pub(crate) fn needing(node: &Node, need: Option<Need>) -> Option<Reason>
+pub(crate) fn need_reason(node: &Node, need: Option<Need>) -> Option<Reason>
     ensures { result ≡ need_reason node.now need }
 {
     match need {
-        Some(Need::Load { word } | Need::Store { word, .. }) => stalled(node, word),
+        Some(Need::Load { word } | Need::Store { word, .. }) => stall_reason(node, word),
         Some(Need::Release { .. }) => pending(node),
         None | Some(Need::Local | Need::End { .. } | Need::Acquire { .. }) => None,
     }
 }
 
 /// The word, if it has no entry and its set has no room.
-fn lacking(node: &Node, word: WordId) -> Option<WordId>
+fn word_without_room(node: &Node, word: WordId) -> Option<WordId>
     ensures { result ≡ crowded node.now word }
 {
     match node.cache().probe(word) {
@@ -113,18 +113,18 @@ fn lacking(node: &Node, word: WordId) -> Option<WordId>
 }
 
 /// The word that lacks a place in the cache for an instruction with this need, if there is one.
-pub(crate) fn wanted(node: &Node, need: Option<Need>) -> Option<WordId>
+pub(crate) fn word_wanting_room(node: &Node, need: Option<Need>) -> Option<WordId>
     ensures { result ≡ wanted_by node.now need }
 {
     match need {
-        Some(Need::Load { word }) => lacking(node, word),
-        Some(Need::Store { word, .. }) => lacking(node, word),
+        Some(Need::Load { word }) => word_without_room(node, word),
+        Some(Need::Store { word, .. }) => word_without_room(node, word),
         _ => None,
     }
 }
 
 /// Why a word's entry may not be evicted.
-fn staying(node: &Node, word: WordId) -> Option<Reason>
+fn stay_reason(node: &Node, word: WordId) -> Option<Reason>
     ensures { result ≡ entry_reason word (entry_of node.now word.0) }
 {
     match node.entry(word) {
@@ -145,7 +145,7 @@ pub(crate) fn without_room(node: &Node, word: WordId, wanted: Option<WordId>) ->
     };
     let sets = node.cache().sets();
     if remainder(word.0, sets) == remainder(wanted.0, sets) {
-        staying(node, word)
+        stay_reason(node, word)
     } else {
         Some(Reason::OtherSet { word, wanted })
     }

@@ -102,7 +102,7 @@ fn push_intervals(
 }
 
 /// The words that a lock guards in the barrier controller's phase, if it has a plan and the plan the lock.
-fn guarded<'a>(machine: &'a Machine, lock: LockId) -> Option<&'a WordSet>
+fn words_guarded<'a>(machine: &'a Machine, lock: LockId) -> Option<&'a WordSet>
     ensures { unwrap_or (option_copied result) [] ≡ guarded_by (slice_get machine.now.state.setting.plans machine.now.state.keeper.phase) lock.0 }
 {
     match machine.plans().get(machine.keeper().phase().0 as usize) {
@@ -122,7 +122,7 @@ pub(crate) fn push_signature(
     ensures { OnOk result (out.new.items ≡ out.old.items ++ signature_lines machine.now.state signed signature lock.0) }
 {
     let phase = machine.keeper().phase();
-    match guarded(machine, lock) {
+    match words_guarded(machine, lock) {
         Some(words) => push_intervals(
             out,
             machine.program(),

@@ -8,7 +8,8 @@ ghost use Rattle.state_text.specs.Holding.{HoldsIn};
 ghost use Rattle.state_text.specs.Reasons.{instr_reason, evict_reason, arrive_reason, reason_against};
 
 use crate::conditions::{
-    filled, inactive, needing, pending, waiting, wanted, with_task, without_room, without_task,
+    fill_reason, inactive, need_reason, pending, wait_reason, with_task, without_room,
+    without_task, word_wanting_room,
 };
 use crate::reason::Reason;
 use dn_base::{CoreId, WordId};
@@ -44,8 +45,8 @@ fn instr(machine: &Machine, node: &Node) -> Option<Reason>
 {
     inactive(node)
         .or(without_task(node))
-        .or(waiting(node.wait()))
-        .or(needing(node, need(machine, node)))
+        .or(wait_reason(node.wait()))
+        .or(need_reason(node, need(machine, node)))
 }
 
 /// Why a node may not evict a word.
@@ -53,11 +54,11 @@ fn evict(machine: &Machine, node: &Node, word: WordId) -> Option<Reason>
     requires { 0 < node.now.cache.sets }
     ensures { result ≡ evict_reason machine.now.state.setting word node.now }
 {
-    let wanted = wanted(node, need(machine, node));
+    let wanted = word_wanting_room(node, need(machine, node));
     inactive(node)
         .or(without_task(node))
-        .or(waiting(node.wait()))
-        .or(filled(node.wait()))
+        .or(wait_reason(node.wait()))
+        .or(fill_reason(node.wait()))
         .or(without_room(node, word, wanted))
 }
 

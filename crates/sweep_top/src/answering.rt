@@ -25,7 +25,7 @@ use std::alloc::Global;
 pub type Reply = Output<SweepStatus>;
 
 /// The answer with this text.
-fn swept(text: Vec<u8>) -> Reply
+fn reply_with(text: Vec<u8>) -> Reply
     ensures { result ≡ swept text.items }
 {
     Output {
@@ -80,7 +80,7 @@ fn sweep_on(alloc: Global, options: &SweepOptions, machine: &Machine) -> Result<
     requires machine { IsInitialMachine machine.now.state.setting.program (shape_for machine.now.state.setting.program (options_at options.now 0)) options.now.fuel machine.now }
     ensures { IfOk result (IsSweepOf machine.now.state.setting.program options.now) }
 {
-    Ok(swept(text_on(alloc, options, machine)?))
+    Ok(reply_with(text_on(alloc, options, machine)?))
 }
 
 /// Makes the runs of a checked program by all seeds, and prints them.

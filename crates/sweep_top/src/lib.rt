@@ -8,7 +8,6 @@ mod command;
 mod counts;
 mod hashing;
 mod laws;
-mod numbers;
 mod options;
 mod program;
 mod running;

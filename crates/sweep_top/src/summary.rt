@@ -13,7 +13,7 @@ use dn_base::{Memory, Outcome};
 use indexmap::IndexSet;
 use itoa::Buffer;
 use message_net::EventKind;
-use run_report::{event_name, outcome_name};
+use run_report::{all_kinds, event_name, outcome_name};
 use std::alloc::Global;
 use text_pieces::{push, push_decimal, push_long};
 
@@ -93,32 +93,6 @@ fn push_kinds(out: &mut Vec<u8>, spreads: &[Spread; 17], kinds: &[EventKind]) ->
         push_kind(out, *kind, &spreads[kind.index()])?;
     }
     Ok(())
-}
-
-/// The kinds of event, in the order in which their counts are printed.
-#[tactic(auto, unfolding(run_report::specs::Run::all_kinds))]
-fn all_kinds() -> [EventKind; 17]
-    ensures { result ≡ all_kinds }
-{
-    [
-        EventKind::Instr,
-        EventKind::Evict,
-        EventKind::Arrive,
-        EventKind::ReadReq,
-        EventKind::ReadFwd,
-        EventKind::DataReply,
-        EventKind::RegReq,
-        EventKind::RegFwd,
-        EventKind::RegAck,
-        EventKind::WriteBack,
-        EventKind::WbAck,
-        EventKind::Acquire,
-        EventKind::Release,
-        EventKind::Grant,
-        EventKind::Arrived,
-        EventKind::Go,
-        EventKind::Halt,
-    ]
 }
 
 /// How many different numbers there are.

@@ -7,12 +7,11 @@ ghost use Rattle.sweep_top.specs.Runs.{options_at};
 ghost use Rattle.sweep_top.specs.Table.{checksum_cell, count_cell, counts_part, table_head, table_row, HasRunRow, HasRunRows};
 
 use crate::hashing::{checksum, push_long_hexadecimal};
-use crate::numbers::{events, retired};
 use crate::options::{Seeds, SweepOptions};
 use crate::running::run_of;
 use dn_base::Memory;
 use dn_machine::{Machine, RunRecord};
-use run_report::{answer_text, grant_text, outcome_name};
+use run_report::{answer_text, event_count, grant_text, outcome_name, retired_by_all};
 use std::alloc::Global;
 use text_pieces::{push, push_decimal, push_long};
 
@@ -52,8 +51,8 @@ fn push_counts_part(out: &mut Vec<u8>, seed: u32, run: &RunRecord) -> Result<(),
     push_decimal(out, seed)?;
     push(out, b",")?;
     push(out, outcome_name(run.ending.outcome))?;
-    push_count(out, retired(run.ending.tasks.as_slice()))?;
-    push_count(out, events(&run.counts.kinds))?;
+    push_count(out, retired_by_all(run.ending.tasks.as_slice()))?;
+    push_count(out, event_count(&run.counts.kinds))?;
     push_counts(out, &run.counts.kinds)
 }
 

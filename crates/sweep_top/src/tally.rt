@@ -11,14 +11,13 @@ ghost use Rattle.sweep_top.specs.Tally.{tallied};
 
 use crate::counts::{AnswerCount, OutcomeCounts};
 use crate::hashing::checksum;
-use crate::numbers::{events, retired};
 use crate::options::{Seeds, SweepOptions};
 use crate::running::run_of;
 use crate::spread::{Spread, Summed, widen_each};
 use dn_base::Memory;
 use dn_machine::{Machine, RunRecord};
 use indexmap::IndexMap;
-use run_report::{answer_text, grant_text};
+use run_report::{answer_text, event_count, grant_text, retired_by_all};
 use std::alloc::Global;
 
 /// What is kept of the runs that were made. The text of an answer is kept once, however often it came.
@@ -92,7 +91,7 @@ impl Tally {
         requires within { IsSeedWithin self.old }
         ensures { OnOk result (IsTallyWith seed run.now self.old self.new) }
     {
-        let retired = retired(run.ending.tasks.as_slice());
+        let retired = retired_by_all(run.ending.tasks.as_slice());
         let once = AnswerCount {
             seed,
             runs: 1,
@@ -104,7 +103,7 @@ impl Tally {
         self.grants.push(checksum(grants.as_slice()))?;
         self.outcomes.add(run.ending.outcome);
         self.retired = self.retired.with(self.runs, retired);
-        self.events = self.events.with(self.runs, events(&run.counts.kinds));
+        self.events = self.events.with(self.runs, event_count(&run.counts.kinds));
         widen_each(&mut self.kinds, self.runs, &run.counts.kinds);
         self.runs += 1;
         Ok(())

@@ -16,7 +16,7 @@ use turn_lock::{Turn, TurnPass};
 const MOST_THREADS: u32 = 17;
 
 // A turn of a total of 0, and its passes.
-fn started(alloc: Global, threads: u32) -> Option<(Turn<Total>, Vec<TurnPass<Total>>)>
+fn start(alloc: Global, threads: u32) -> Option<(Turn<Total>, Vec<TurnPass<Total>>)>
     ensures { IfSome result (λ r. All (IsPassOf r.0) r.1.items) }
 {
     if threads == 0 || threads > MOST_THREADS {
@@ -68,7 +68,7 @@ pub fn by_turn<R: Threads + Wait + Clock + Sync>(
     threads: u32,
     limit: Limit,
 ) -> Option<Run> {
-    let (turn, passes) = started(alloc, threads)?;
+    let (turn, passes) = start(alloc, threads)?;
     let turn = &turn;
     let made = thread::map_vec(
         rt,

@@ -125,7 +125,7 @@ fn print_rates<R: Print>(rt: &R, threads: u32, turn: u64, mutex: u64) -> io::Res
 }
 
 // One run in which the threads watch their waits, or None where memory or the clock failed.
-fn watched<R: Threads + Wait + Clock + Sync>(
+fn run_with_watch<R: Threads + Wait + Clock + Sync>(
     rt: &R,
     alloc: Global,
     way: Way,
@@ -143,7 +143,7 @@ fn watch<R: Threads + Wait + Clock + Print + Sync>(
     threads: u32,
     time: Duration,
 ) -> io::Result<()> {
-    match watched(rt, alloc, way, threads, time) {
+    match run_with_watch(rt, alloc, way, threads, time) {
         Some(run) => print_shares(rt, way, threads, run),
         None => println!(rt; "memory or the clock failed"),
     }

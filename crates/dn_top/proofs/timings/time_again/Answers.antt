@@ -15,4 +15,4 @@ timed-requires-clause-run c =
 
 pub returns : goal.returns
 returns c =
-    subst (λ (C : Setting). IfOk c.timed.result (λ (out : Output). IsTimedFor C.program c.args.options.now c.args.run out)) (reset-setting c.args.machine.now.state.setting c.reset.new.self.state c.in_ok-reset.ensures.state) c.timed.ensures
+    subst (λ (C : Setting). IfOk c.sum_up.result (λ (out : Output). IsTimedFor C.program c.args.options.now c.args.run out)) (reset-setting c.args.machine.now.state.setting c.reset.new.self.state c.in_ok-reset.ensures.state) c.sum_up.ensures

@@ -8,6 +8,6 @@ timed-requires-clause-run c = c.in_ok-run.ensures.run.run
 
 pub returns : goal.returns
 returns c =
-    IfOk-weaker c.timed.result _ (λ (out : Output). IsTimedRun c.args.machine.now.state.setting.program (with_one_worker c.args.options.now) out)
+    IfOk-weaker c.sum_up.result _ (λ (out : Output). IsTimedRun c.args.machine.now.state.setting.program (with_one_worker c.args.options.now) out)
     (λ out timed. record { run = c.in_ok-run.run'; is = c.in_ok-run.ensures.run; timed = timed })
-    c.timed.ensures
+    c.sum_up.ensures

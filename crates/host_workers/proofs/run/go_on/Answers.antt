@@ -25,10 +25,10 @@ returns-clause-far g c =
     let stands = stands-now m.state.setting m c.args.log.now c.requires.far in
     let r = c.in_ok-round.round in
     let by = round-by m c.args.workers r stands.0 stands.1 c.in_ok-round.ensures in
-    both-ok c.noted.result _ _ (λ (left : Made). IsRunSoFar m.state.setting left c.noted.new.log)
-    (λ left is told. subst (λ (l : Made). IsRunSoFar m.state.setting l c.noted.new.log) (sym is)
-    (goes-on m.state.setting m c.args.log.now told.noted c.noted.new.log r c.requires.far by told.entries told.ends))
-    c.noted.ensures.machine c.noted.ensures.noted
+    both-ok c.finish_round.result _ _ (λ (left : Made). IsRunSoFar m.state.setting left c.finish_round.new.log)
+    (λ left is told. subst (λ (l : Made). IsRunSoFar m.state.setting l c.finish_round.new.log) (sym is)
+    (goes-on m.state.setting m c.args.log.now told.noted c.finish_round.new.log r c.requires.far by told.entries told.ends))
+    c.finish_round.ensures.machine c.finish_round.ensures.noted
 
 pub returns-clause-more : goal.returns-clause-more
 returns-clause-more g c =
@@ -36,17 +36,17 @@ returns-clause-more g c =
     let stands = stands-now m.state.setting m c.args.log.now c.requires.far in
     let r = c.in_ok-round.round in
     let by = round-by m c.args.workers r stands.0 stands.1 c.in_ok-round.ensures in
-    IfOk-weaker c.noted.result _ (λ (left : Made). length c.args.log.now.events < length c.noted.new.log.events)
+    IfOk-weaker c.finish_round.result _ (λ (left : Made). length c.args.log.now.events < length c.finish_round.new.log.events)
     (λ left told.
     let more = some-more m r c.requires.comes.0 c.args.log.now told.noted by c.requires.comes.1 told.entries in
     omega (arith, more, ap (λ (l : Log). length l.events) told.ends))
-    c.noted.ensures.noted
+    c.finish_round.ensures.noted
 
 pub returns-clause-setting : goal.returns-clause-setting
 returns-clause-setting g c =
     let m = c.args.machine in
     let stands = stands-now m.state.setting m c.args.log.now c.requires.far in
     let by = round-by m c.args.workers c.in_ok-round.round stands.0 stands.1 c.in_ok-round.ensures in
-    IfOk-weaker c.noted.result _ (λ (left : Made). left.state.setting ≡ m.state.setting)
+    IfOk-weaker c.finish_round.result _ (λ (left : Made). left.state.setting ≡ m.state.setting)
     (λ left is. ap (λ (l : Made). l.state.setting) is ∙ by.setting)
-    c.noted.ensures.machine
+    c.finish_round.ensures.machine

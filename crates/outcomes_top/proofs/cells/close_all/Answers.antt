@@ -5,4 +5,4 @@ use Rattle.outcomes_top.proofs.cells.close_all.Goals as goal
 
 pub loop-place-preserved : goal.loop-place-preserved
 loop-place-preserved c =
-    ap (slice_set c.loop-place.cells c.loop-place.place) c.closed.ensures ∙ one-changed closed c.args.cells.now c.loop-place.cells c.loop-place.place _ c.loop-place.invariant
+    ap (slice_set c.loop-place.cells c.loop-place.place) c.close.ensures ∙ one-changed closed c.args.cells.now c.loop-place.cells c.loop-place.place _ c.loop-place.invariant

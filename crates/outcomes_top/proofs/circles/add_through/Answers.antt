@@ -10,13 +10,13 @@ loop-from-preserved c =
     let lock = c.args.lock in
     let old = c.args.rows.now in
     let now = c.loop-from.rows in
-    let r = c.passed.result in
+    let r = c.pass_through.result in
     let here = c.loop-from.invariant.rest i (omega arith) in
     record {
       count = length-set now i r ∙ c.loop-from.invariant.count;
       done = λ a low.
           at-row (λ (k x : ℕ). (b : ℕ) → is_held x b ≡ (is_held (slice_index old k) b || (is_held (slice_index old k) lock && is_held (slice_index old lock) b))) now i r a (omega (arith, c.loop-from.invariant.count))
-          (λ b. c.passed.ensures b ∙ ap (λ (x : ℕ). is_held x b || (is_held x lock && is_held (slice_index old lock) b)) here)
+          (λ b. c.pass_through.ensures b ∙ ap (λ (x : ℕ). is_held x b || (is_held x lock && is_held (slice_index old lock) b)) here)
           (λ apart. c.loop-from.invariant.done a (omega (arith, low, apart)));
       rest = λ a low. get_or-set_other now i a r 0 (λ e. absurd (omega (arith, low, e))) ∙ c.loop-from.invariant.rest a (omega (arith, low));
     }

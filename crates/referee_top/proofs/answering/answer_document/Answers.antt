@@ -10,14 +10,14 @@ use Rattle.referee_top.proofs.answering.answer_document.Goals as goal
 
 pub returns-clause-done : goal.returns-clause-done
 returns-clause-done c =
-    ok-by c.ordered.result (IsOrdered c.in_ok-checked.checked c.in_ok-order.order) (mode_done mode.TheVariants.Answer c.args.document.now) c.ordered.ensures.done
+    ok-by c.run_by_order.result (IsOrdered c.in_ok-checked.checked c.in_ok-order.order) (mode_done mode.TheVariants.Answer c.args.document.now) c.run_by_order.ensures.done
     (λ (out : Reply) is.
     told IsOrderDocument (λ (o : GrantOrder). o.question.text) c.args.document.now c.in_ok-order.order c.as_slice.result.now c.in_ok-checked.checked
     (λ (o : GrantOrder) (P : ProgramParts). IsOrdered P o out) c.in_ok-order.ensures.ok c.as_slice.ensures c.in_ok-checked.ensures.ok c.in_ok-checked.ensures.checked is)
 
 pub returns-clause-stop : goal.returns-clause-stop
 returns-clause-stop c =
-    stop-by c.ordered.result (IsUnwritten (IsRightClaim c.in_ok-checked.checked c.in_ok-order.order.question c.in_ok-order.order.grants)) (refused_with mode.TheVariants.Answer c.args.document.now) c.ordered.ensures.stop
+    stop-by c.run_by_order.result (IsUnwritten (IsRightClaim c.in_ok-checked.checked c.in_ok-order.order.question c.in_ok-order.order.grants)) (refused_with mode.TheVariants.Answer c.args.document.now) c.run_by_order.ensures.stop
     (λ (line : List ℕ) is.
     let there =
     told IsOrderDocument (λ (o : GrantOrder). o.question.text) c.args.document.now c.in_ok-order.order c.as_slice.result.now c.in_ok-checked.checked

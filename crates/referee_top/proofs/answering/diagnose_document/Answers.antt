@@ -14,7 +14,7 @@ diagnosed-requires-clause-claim c = judgeable c.args.document.now c.in_ok-claim.
 pub returns-clause-done : goal.returns-clause-done
 returns-clause-done c =
     told IsClaimDocument (λ (d : Claim). d.question.text) c.args.document.now c.in_ok-claim.claim c.as_slice.result.now c.in_ok-checked.checked
-    (λ (d : Claim) (P : ProgramParts). IsDiagnosed P d c.in_ok-diagnosed.field-0) c.in_ok-claim.ensures.ok c.as_slice.ensures c.in_ok-checked.ensures.ok c.in_ok-checked.ensures.checked c.in_ok-diagnosed.ensures
+    (λ (d : Claim) (P : ProgramParts). IsDiagnosed P d c.in_ok-diagnose_claim.field-0) c.in_ok-claim.ensures.ok c.as_slice.ensures c.in_ok-checked.ensures.ok c.in_ok-checked.ensures.checked c.in_ok-diagnose_claim.ensures
 
 pub diagnosed-requires-clause-places : goal.diagnosed-requires-clause-places
 diagnosed-requires-clause-places c = c.in_ok-places.ensures ∙ ap text_places c.as_slice-2.ensures

@@ -12,4 +12,4 @@ judged-requires c = judgeable c.args.document.now c.in_ok-claim.claim c.in_ok-cl
 pub returns-clause-done : goal.returns-clause-done
 returns-clause-done c =
     told IsClaimDocument (λ (d : Claim). d.question.text) c.args.document.now c.in_ok-claim.claim c.as_slice.result.now c.in_ok-checked.checked
-    (λ (d : Claim) (P : ProgramParts). IsJudged P d c.in_ok-judged.field-0) c.in_ok-claim.ensures.ok c.as_slice.ensures c.in_ok-checked.ensures.ok c.in_ok-checked.ensures.checked c.in_ok-judged.ensures
+    (λ (d : Claim) (P : ProgramParts). IsJudged P d c.in_ok-judge_claim.field-0) c.in_ok-claim.ensures.ok c.as_slice.ensures c.in_ok-checked.ensures.ok c.in_ok-checked.ensures.checked c.in_ok-judge_claim.ensures

@@ -11,4 +11,4 @@ settled-requires c = judgeable c.args.document.now c.in_ok-claim.claim c.in_ok-c
 pub returns-clause-done : goal.returns-clause-done
 returns-clause-done c =
     told IsPlainDocument (λ (d : Claim). d.question.text) c.args.document.now c.in_ok-claim.claim c.as_slice.result.now c.in_ok-checked.checked
-    (λ (d : Claim) (P : ProgramParts). IsSettledJudged P d c.in_ok-settled.field-0) c.in_ok-claim.ensures.ok c.as_slice.ensures c.in_ok-checked.ensures.ok c.in_ok-checked.ensures.checked c.in_ok-settled.ensures
+    (λ (d : Claim) (P : ProgramParts). IsSettledJudged P d c.in_ok-settle_claim.field-0) c.in_ok-claim.ensures.ok c.as_slice.ensures c.in_ok-checked.ensures.ok c.in_ok-checked.ensures.checked c.in_ok-settle_claim.ensures

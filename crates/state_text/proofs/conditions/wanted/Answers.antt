@@ -1,6 +1,0 @@
-use Rattle.state_text.proofs.conditions.wanted.Goals as goal
-
-pub returns-in-Some-Store : goal.returns-in-Some-Store
-returns-in-Some-Store c =
-    let known = rw c.in-Some-Store.is at c.in-Some-Store.field-0-is in
-    rw (c.in-Some-Store.is, known) c.lacking-in-Some-Store.ensures
