@@ -3,11 +3,14 @@
 //!
 //!     plain WORKERS SEED [histories] < NUMBERS
 //!     plain alone SEED < NUMBERS
+//!     plain flat 0 < NUMBERS
 //!
 //! writes what `denovo --workers WORKERS --seed SEED` writes, and to standard error how long the run took, from the checked program to
 //! its ending, in how many rounds and passes. With `histories` each object keeps all its calls, as those of denovo do. With `alone` one
-//! thread makes the run, by the same picks as denovo's one worker: it writes exactly what `denovo --seed SEED` writes.
+//! thread makes the run, by the same picks as denovo's one worker: it writes exactly what `denovo --seed SEED` writes. With `flat` the run is
+//! that of the reference machine: it writes exactly what `denovo --mode flat` writes.
 mod alone;
+mod flat;
 mod homes;
 mod mail;
 mod node;
@@ -82,12 +85,7 @@ fn told(end: &End) -> String {
     }
 }
 
-fn report(
-    ending: &Ending,
-    grants: impl Iterator<Item = Grant>,
-    counts: &[u64; 17],
-) -> Result<String, std::fmt::Error> {
-    let mut text = String::new();
+fn answer(text: &mut String, ending: &Ending) -> std::fmt::Result {
     writeln!(text, "outcome {}", outcome(&ending.tasks))?;
     for (phase, core, end, retired) in &ending.tasks {
         writeln!(text, "task {phase} {core} {} retired {retired}", told(end))?;
@@ -96,9 +94,24 @@ fn report(
     for (place, value) in ending.memory.iter().enumerate().filter(|word| *word.1 != 0) {
         writeln!(text, "word 0x{:08x} 0x{value:08x}", 0x1000_0000 + 4 * place)?;
     }
+    Ok(())
+}
+
+fn list_grants(text: &mut String, grants: impl Iterator<Item = Grant>) -> std::fmt::Result {
     for grant in grants {
         writeln!(text, "grant {} {} {}", grant.phase, grant.core, grant.lock)?;
     }
+    Ok(())
+}
+
+fn report(
+    ending: &Ending,
+    grants: impl Iterator<Item = Grant>,
+    counts: &[u64; 17],
+) -> Result<String, std::fmt::Error> {
+    let mut text = String::new();
+    answer(&mut text, ending)?;
+    list_grants(&mut text, grants)?;
     writeln!(text, "count events {}", counts.iter().sum::<u64>())?;
     for (name, count) in KINDS.iter().zip(counts) {
         writeln!(text, "count {name} {count}")?;
@@ -135,19 +148,43 @@ fn run_by_workers(program: &Program, workers: u32, seed: u32, keeps_histories: b
     report(&ending, grants, &counts).expect("a string takes all")
 }
 
+fn run_flat(program: &Program) -> String {
+    let begun = Instant::now();
+    let run = flat::run(program);
+    let micros = begun.elapsed().as_micros();
+    eprintln!("grants {} micros {micros}", run.grants.len());
+    let ending = Ending {
+        tasks: run.ends,
+        memory: run.memory,
+    };
+    let mut text = String::new();
+    answer(&mut text, &ending)
+        .and_then(|()| list_grants(&mut text, run.grants.into_iter()))
+        .expect("a string takes all");
+    text
+}
+
 fn main() {
     let words: Vec<String> = env::args().skip(1).collect();
     let number = |place: usize| words.get(place).and_then(|word| word.parse::<u32>().ok());
-    let is_alone = words.first().is_some_and(|word| word == "alone");
-    let workers = if is_alone { Some(1) } else { number(0) };
+    let is = |name: &str| words.first().is_some_and(|word| word == name);
+    let workers = if is("alone") || is("flat") {
+        Some(1)
+    } else {
+        number(0)
+    };
     let (Some(workers), Some(seed)) = (workers, number(1)) else {
-        eprintln!("plain: WORKERS SEED [histories] < NUMBERS, or plain: alone SEED < NUMBERS");
+        eprintln!(
+            "plain: WORKERS SEED [histories] < NUMBERS, plain: alone SEED < NUMBERS, or plain: flat 0 < NUMBERS"
+        );
         std::process::exit(1);
     };
     let text = io::read_to_string(io::stdin()).expect("standard input");
     let program = Program::read(&text);
-    let told = if is_alone {
+    let told = if is("alone") {
         run_alone(&program, seed)
+    } else if is("flat") {
+        run_flat(&program)
     } else {
         run_by_workers(&program, workers.clamp(1, 16), seed, words.len() > 2)
     };

@@ -13,7 +13,7 @@ use Rattle.rv_assembler.specs.declared.kind.Kind as in_kind
 use Rattle.rv_assembler.specs.declared.kind.Directive as in_directive
 use Rattle.rv_assembler.specs.declared.kind.Form as in_form
 use Rattle.rv_assembler.specs.Shape.{name, name_n_n, name_name, name_name_n_n}
-use Rattle.rv_assembler.specs.Named.{plain_usage, guarded_usage, lock_number}
+use Rattle.rv_assembler.specs.Named.{plain_usage, under_lock, lock_number}
 use Rattle.rv_listing.specs.Listing.{text_of, use_line, interval_lines, set_lines}
 use Rattle.rv_listing.specs.Law.{is_declared_name}
 use Rattle.rv_listing.proofs.PartLemmas.{text-append}
@@ -39,7 +39,7 @@ plain-gives text names w writes k = record {
 }
 
 pub guarded-gives : (text : List ℕ) (names : List ℕ → Option Meaning) (w : List ℕ) (writes : Bool) (lock : List ℕ) (number : ℕ) → HasKindBut w name_name name_name_n_n (in_kind.TheVariants.Table (in_directive.TheVariants.Guarded writes in_form.TheVariants.Part)) → is_declared_name lock ≡ true
-    → names lock ≡ Some (in_meaning.TheVariants.Lock number) → GivesUse text names w (Some lock) (guarded_usage writes number)
+    → names lock ≡ Some (in_meaning.TheVariants.Lock number) → GivesUse text names w (Some lock) (under_lock writes number)
 unfolding use_line
 guarded-gives text names w writes lock number k g known = record {
   good = λ n lo hi h l m. statement-good (nm w) (nm lock ∷ nm n ∷ num (pos lo) ∷ num (pos hi) ∷ []) k.op (name-op lock g, (name-op n h, (num-op (pos lo) l, (num-op (pos hi) m, tt))));
@@ -50,7 +50,7 @@ guarded-gives text names w writes lock number k g known = record {
         said = said.said;
         region = said.second_bytes;
         extent = refl;
-        usage = ap (λ (o : Option Meaning). option_map (guarded_usage writes) (lock_number o)) (ap names said.first_bytes ∙ known);
+        usage = ap (λ (o : Option Meaning). option_map (under_lock writes) (lock_number o)) (ap names said.first_bytes ∙ known);
         lock = ap (λ (o : Option Meaning). is_none (lock_number o)) (ap names said.first_bytes ∙ known);
       };
 }

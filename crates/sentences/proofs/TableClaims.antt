@@ -30,7 +30,7 @@ use Rattle.rv_assembler.specs.declared.draft.Span.{Span}
 use Rattle.rv_assembler.specs.declared.draft.Usage.{Usage}
 use Rattle.rv_assembler.specs.Number.{natural_of}
 use Rattle.rv_assembler.specs.Operand.{bytes_of}
-use Rattle.rv_assembler.specs.Named.{region_span, lock_number, task_entry, usage_of, usage_by, plain_usage, guarded_usage}
+use Rattle.rv_assembler.specs.Named.{region_span, lock_number, task_entry, usage_of, usage_by, plain_usage, under_lock}
 use Rattle.rv_assembler.specs.Rows.{start_at, use_at, uses_of}
 use Rattle.rv_assembler.specs.Placed.{Placed, placed, placed_behind}
 use Rattle.rv_assembler.specs.Counts.{data_words, regions_in, locks_in, code_words, is_phase, phases_in, family_in, current_family}
@@ -347,20 +347,20 @@ used-so text names locks Plainly writes (Some t) u so is = absurd (false≢true 
 used-so text names locks (Under number) writes None u so is = absurd (false≢true so)
 used-so text names locks (Under number) writes (Some t) u so is = by_name (slice_get locks number) refl so
   where
-    by_use : (name : List ℕ) (k : ℕ) (w : Bool) → slice_get locks number ≡ Some name → lock_number (names name) ≡ Some k → guarded_usage w k ≡ u → IsUsedSo names locks (Under number) u
+    by_use : (name : List ℕ) (k : ℕ) (w : Bool) → slice_get locks number ≡ Some name → lock_number (names name) ≡ Some k → under_lock w k ≡ u → IsUsedSo names locks (Under number) u
     by_use name k true there means e = (name, k, there, means, inr (sym e))
     by_use name k false there means e = (name, k, there, means, inl (sym e))
 
-    by_lock : (name : List ℕ) (o : Option ℕ) → slice_get locks number ≡ Some name → lock_number (names name) ≡ o → option_map (guarded_usage writes) o ≡ Some u
+    by_lock : (name : List ℕ) (o : Option ℕ) → slice_get locks number ≡ Some name → lock_number (names name) ≡ o → option_map (under_lock writes) o ≡ Some u
         → IsUsedSo names locks (Under number) u
     by_lock name None there means e = absurd (none-some u e)
-    by_lock name (Some k) there means e = by_use name k writes there means (same_Some (guarded_usage writes k) u e)
+    by_lock name (Some k) there means e = by_use name k writes there means (same_Some (under_lock writes k) u e)
 
     by_name : (o : Option (List ℕ)) → slice_get locks number ≡ o → names_lock text (Some t) o ≡ true → IsUsedSo names locks (Under number) u
     by_name None there h = absurd (false≢true h)
     by_name (Some name) there h =
         let same : bytes_of text t ≡ name = (bytes_eq-Decides (bytes_of text t) name).0 h in
-        by_lock name (lock_number (names name)) there refl (ap (λ (n : List ℕ). option_map (guarded_usage writes) (lock_number (names n))) (sym same) ∙ is)
+        by_lock name (lock_number (names name)) there refl (ap (λ (n : List ℕ). option_map (under_lock writes) (lock_number (names n))) (sym same) ∙ is)
 
 -- a length of a region, as a number of the text
 small-length : (len : ℤ) (index long : ℕ) → long ≡ natural_of len → index < long → long ≤ 65536 → (int_lt (pos index) len ≡ true) × (int_le len (pos 65536) ≡ true)
@@ -495,7 +495,7 @@ module _ (text : List ℕ) (P : ProgramParts) (is : source text ≡ Ok P) (c : C
         by_lock None h = (_, refl)
         by_lock (Some t) h =
             let lock = some-lock (lock_number (names (bytes_of text t))) h in
-            (guarded_usage e.writes lock.0, ap (option_map (guarded_usage e.writes)) lock.1)
+            (under_lock e.writes lock.0, ap (option_map (under_lock e.writes)) lock.1)
 
       named-as : names_region text e.region (slice_get P.regions c.place.region) ≡ true → bytes_of text e.region ≡ at'.region.name
       named-as h =
