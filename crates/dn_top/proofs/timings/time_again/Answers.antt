@@ -5,12 +5,12 @@ use Rattle.dn_top.specs.Runs.{IsAnyRunFor, IsTimedFor}
 use Rattle.dn_top.proofs.RunOf.{reset-setting, at-start}
 use Rattle.dn_top.proofs.timings.time_again.Goals as goal
 
-pub timed-requires-clause-initial : goal.timed-requires-clause-initial
-timed-requires-clause-initial c =
+pub sum_up-requires-clause-initial : goal.sum_up-requires-clause-initial
+sum_up-requires-clause-initial c =
     at-start c.args.options.now c.args.machine.now.state.setting c.reset.new.self c.in_ok-reset.ensures.state c.in_ok-reset.ensures.made c.requires.setting
 
-pub timed-requires-clause-run : goal.timed-requires-clause-run
-timed-requires-clause-run c =
+pub sum_up-requires-clause-run : goal.sum_up-requires-clause-run
+sum_up-requires-clause-run c =
     subst (λ (C : Setting). IsAnyRunFor C.program c.args.options.now c.args.run) (sym (reset-setting c.args.machine.now.state.setting c.reset.new.self.state c.in_ok-reset.ensures.state)) c.requires.run
 
 pub returns : goal.returns

@@ -3,8 +3,8 @@ use Rattle.dn_top.specs.declared.output.Output.{Output}
 use Rattle.dn_top.specs.Runs.{with_one_worker, IsTimedRun}
 use Rattle.dn_top.proofs.timings.time_on.Goals as goal
 
-pub timed-requires-clause-run : goal.timed-requires-clause-run
-timed-requires-clause-run c = c.in_ok-run.ensures.run.run
+pub sum_up-requires-clause-run : goal.sum_up-requires-clause-run
+sum_up-requires-clause-run c = c.in_ok-run.ensures.run.run
 
 pub returns : goal.returns
 returns c =

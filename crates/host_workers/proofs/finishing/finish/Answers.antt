@@ -9,8 +9,8 @@ use Rattle.host_workers.specs.Opening.{crew_of, pass_of}
 use Rattle.host_workers.specs.Finishing.{IsFinished}
 use Rattle.host_workers.proofs.finishing.finish.Goals as goal
 
-pub gathered-requires-clause-some : goal.gathered-requires-clause-some
-gathered-requires-clause-some c = subst (λ n. 1 ≤ n) (sym (ap length c.in_ok-passes.ensures.crews ∙ long-map crew_of c.args.jobs.items)) c.requires.some
+pub gather-requires-clause-some : goal.gather-requires-clause-some
+gather-requires-clause-some c = subst (λ n. 1 ≤ n) (sym (ap length c.in_ok-passes.ensures.crews ∙ long-map crew_of c.args.jobs.items)) c.requires.some
 
 pub returns : goal.returns
 returns c =

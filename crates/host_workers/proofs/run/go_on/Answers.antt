@@ -12,8 +12,8 @@ pub run_round-requires-clause-made : goal.run_round-requires-clause-made
 run_round-requires-clause-made g c κs within =
     omega (arith, few-events c.args.machine.state.setting c.args.machine c.args.log.now c.requires.far, c.requires.far.made)
 
-pub noted-requires-clause-few : goal.noted-requires-clause-few
-noted-requires-clause-few g c =
+pub finish_round-requires-clause-few : goal.finish_round-requires-clause-few
+finish_round-requires-clause-few g c =
     let m = c.args.machine in
     let stands = stands-now m.state.setting m c.args.log.now c.requires.far in
     let r = c.in_ok-round.round in

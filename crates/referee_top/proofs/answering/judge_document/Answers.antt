@@ -6,8 +6,8 @@ use Rattle.referee_top.specs.Answers.{IsJudged}
 use Rattle.referee_top.proofs.Told.{told}
 use Rattle.referee_top.proofs.answering.judge_document.Goals as goal
 
-pub judged-requires : goal.judged-requires
-judged-requires c = judgeable c.args.document.now c.in_ok-claim.claim c.in_ok-claim.ensures.ok
+pub judge_claim-requires : goal.judge_claim-requires
+judge_claim-requires c = judgeable c.args.document.now c.in_ok-claim.claim c.in_ok-claim.ensures.ok
 
 pub returns-clause-done : goal.returns-clause-done
 returns-clause-done c =

@@ -5,8 +5,8 @@ use Rattle.referee_top.specs.Answers.{IsPlainDocument, IsSettledJudged}
 use Rattle.referee_top.proofs.Told.{told}
 use Rattle.referee_top.proofs.answering.settled_document.Goals as goal
 
-pub settled-requires : goal.settled-requires
-settled-requires c = judgeable c.args.document.now c.in_ok-claim.claim c.in_ok-claim.ensures.ok.is
+pub settle_claim-requires : goal.settle_claim-requires
+settle_claim-requires c = judgeable c.args.document.now c.in_ok-claim.claim c.in_ok-claim.ensures.ok.is
 
 pub returns-clause-done : goal.returns-clause-done
 returns-clause-done c =

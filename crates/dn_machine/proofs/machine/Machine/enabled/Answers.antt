@@ -1,4 +1,4 @@
 use Rattle.dn_machine.proofs.machine.Machine.enabled.Goals as goal
 
-pub enabled-requires-clause-fits : goal.enabled-requires-clause-fits
-enabled-requires-clause-fits c = λ core n here. rw c.context_of-context.ensures (c.self.invariant.0.sound.machine.node core n here).fits
+pub is_enabled-requires-clause-fits : goal.is_enabled-requires-clause-fits
+is_enabled-requires-clause-fits c = λ core n here. rw c.context_of-context.ensures (c.self.invariant.0.sound.machine.node core n here).fits
