@@ -57,7 +57,7 @@ pub(crate) fn wait_reason(wait: NodeWait) -> Option<Reason>
 }
 
 /// The word that has come for the next instruction.
-pub(crate) fn fill_reason(wait: NodeWait) -> Option<Reason>
+pub(crate) fn filled_reason(wait: NodeWait) -> Option<Reason>
     ensures { result ≡ filled_reason wait }
 {
     match wait {
@@ -78,7 +78,7 @@ pub(crate) fn pending(node: &Node) -> Option<Reason>
 }
 
 /// Why a load or store of a word stalls.
-fn stall_reason(node: &Node, word: WordId) -> Option<Reason>
+fn access_reason(node: &Node, word: WordId) -> Option<Reason>
     ensures { result ≡ access_reason node.now word (entry_of node.now word.0) }
 {
     match node.cache().probe(word) {
@@ -96,7 +96,7 @@ pub(crate) fn need_reason(node: &Node, need: Option<Need>) -> Option<Reason>
     ensures { result ≡ need_reason node.now need }
 {
     match need {
-        Some(Need::Load { word } | Need::Store { word, .. }) => stall_reason(node, word),
+        Some(Need::Load { word } | Need::Store { word, .. }) => access_reason(node, word),
         Some(Need::Release { .. }) => pending(node),
         None | Some(Need::Local | Need::End { .. } | Need::Acquire { .. }) => None,
     }
@@ -124,7 +124,7 @@ pub(crate) fn word_wanting_room(node: &Node, need: Option<Need>) -> Option<WordI
 }
 
 /// Why a word's entry may not be evicted.
-fn stay_reason(node: &Node, word: WordId) -> Option<Reason>
+fn entry_reason(node: &Node, word: WordId) -> Option<Reason>
     ensures { result ≡ entry_reason word (entry_of node.now word.0) }
 {
     match node.entry(word) {
@@ -145,7 +145,7 @@ pub(crate) fn without_room(node: &Node, word: WordId, wanted: Option<WordId>) ->
     };
     let sets = node.cache().sets();
     if remainder(word.0, sets) == remainder(wanted.0, sets) {
-        stay_reason(node, word)
+        entry_reason(node, word)
     } else {
         Some(Reason::OtherSet { word, wanted })
     }

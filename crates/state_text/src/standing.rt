@@ -8,7 +8,7 @@ ghost use Rattle.state_text.specs.Holding.{HoldsIn};
 ghost use Rattle.state_text.specs.Reasons.{instr_reason, evict_reason, arrive_reason, reason_against};
 
 use crate::conditions::{
-    fill_reason, inactive, need_reason, pending, wait_reason, with_task, without_room,
+    filled_reason, inactive, need_reason, pending, wait_reason, with_task, without_room,
     without_task, word_wanting_room,
 };
 use crate::reason::Reason;
@@ -58,7 +58,7 @@ fn evict(machine: &Machine, node: &Node, word: WordId) -> Option<Reason>
     inactive(node)
         .or(without_task(node))
         .or(wait_reason(node.wait()))
-        .or(fill_reason(node.wait()))
+        .or(filled_reason(node.wait()))
         .or(without_room(node, word, wanted))
 }
 

@@ -1,7 +1,7 @@
 use Rattle.std.proofs.Common.{◌≡◌, false, true, None, refl, subst}
 use Rattle.word_cache.specs.Cache.{Cache, lookup, has_room}
 use Rattle.registration_protocol.specs.Node.{entry_of}
-use Rattle.state_text.proofs.conditions.stall_reason.Goals as goal
+use Rattle.state_text.proofs.conditions.access_reason.Goals as goal
 
 pub returns-in-Room : goal.returns-in-Room
 returns-in-Room c =
