@@ -1,5 +1,5 @@
 -- One document is of one claim at most, and bytes that are none have one fault.
-use Rattle.std.proofs.Common.{◌≡◌, ◌≢◌, ◌⊎◌, ℕ, ◌<◌, List, ◌++◌, flat_map, length, Option, Some, None, Result, Ok, Err, IfOk, IfErr, inl, inr, refl, sym, ap, subst, ◌∙◌, arith, append_assoc}
+use Rattle.std.proofs.Common.{◌≡◌, ℕ, List, ◌++◌, flat_map, length, Option, Some, None, refl, sym, ap, subst, ◌∙◌, arith, append_assoc}
 use Rattle.std.proofs.lemmas.Option.{none-some, same_Some}
 use Rattle.dn_base.specs.declared.ids.Grant.{Grant}
 use Rattle.flat_machine.specs.declared.ending.TaskLoads.{TaskLoads}
@@ -10,8 +10,8 @@ use Rattle.claims.specs.declared.claim.Claim.{Claim}
 use Rattle.claims.specs.declared.claim.ClaimFault.{ClaimFault}
 use Rattle.claims.specs.declared.claim.ClaimFault.TheVariants.{TooLarge, Head as NoHead, Grant as NoGrant, Loads as NoLoads, Task as NoTask, Load as NoLoad, Behind, Memory}
 use Rattle.claims.specs.declared.rows.TaskHead.{TaskHead}
-use Rattle.claims.specs.Claim.{most_bytes, Head, IsHead, head_of, head_text, IsGrant, grant_row, IsLoads, IsLoadsHead, head_of_loads, loads_head_row, loads_text, tasks_text, IsTask, task_rows, IsTaskHead, task_head_row, IsLoad, load_row, IsClaimDocument, claim_text}
-use Rattle.claims.specs.Faults.{BeginsWithHead, BeginsWithGrants, BeginsWithLoads, IsBrokenTask, IsBrokenLoad, HasFault}
+use Rattle.claims.specs.Claim.{Head, head_of, head_text, IsGrant, grant_row, IsLoads, IsLoadsHead, head_of_loads, loads_head_row, loads_text, tasks_text, IsTask, task_rows, IsTaskHead, task_head_row, IsLoad, load_row, IsClaimDocument, claim_text}
+use Rattle.claims.specs.Faults.{BeginsWithHead, BeginsWithGrants, BeginsWithLoads, IsBrokenTask, IsBrokenLoad, HasFrontFault, HasFault}
 use Rattle.claims.proofs.Forms.{head-one, grant-one, loads-head-one, task-one, task-head-one, load-one}
 
 -- what the record of a claim's loads makes of what is written
@@ -43,7 +43,7 @@ module _ (bytes : List ℕ) where
 
   -- ---- a fault excludes what goes on behind it
 
-  pub grant-broken : (g h : Head) (gs : List Grant) (behind rest r : List ℕ) (number : ℕ) → BeginsWithHead bytes g behind → IsBrokenAt IsGrant grant_row behind g.count number rest → BeginsWithGrants bytes h gs r → ⊥
+  grant-broken : (g h : Head) (gs : List Grant) (behind rest r : List ℕ) (number : ℕ) → BeginsWithHead bytes g behind → IsBrokenAt IsGrant grant_row behind g.count number rest → BeginsWithGrants bytes h gs r → ⊥
   grant-broken g h gs behind rest r number a broken b =
       let heads = heads-one g h behind b.behind a b.head in
       let mine : StandAll IsGrant grant_row behind gs r = subst (λ bs. StandAll IsGrant grant_row bs gs r) (sym heads.1) b.grants in
@@ -54,11 +54,12 @@ module _ (bytes : List ℕ) where
       let grants = grants-one h b.head gs b.grants r b.behind a b.begins in
       none n q (record { fits = b.loads.fits; parts = grants.2 ∙ b.loads.parts })
 
-  begun-head : (h : Head) (gs : List Grant) (r : List ℕ) → BeginsWithGrants bytes h gs r → NoneStands IsHead head_text bytes → ⊥
-  begun-head h gs r a none = none h a.behind a.head.head
-
-  pub head-excludes : (h : Head) (r : List ℕ) → BeginsWithHead bytes h r → NoneStands IsHead head_text bytes → ⊥
-  head-excludes h r a none = none h r a.head
+  -- a fault of the front, and a front
+  pub front-excludes : (f : ClaimFault) (h : Head) (gs : List Grant) (r : List ℕ) → HasFrontFault bytes f → BeginsWithGrants bytes h gs r → ⊥
+  front-excludes TooLarge h gs r a b = omega (arith, a, b.head.within)
+  front-excludes NoHead h gs r a b = a.1 h b.behind b.head.head
+  front-excludes (NoGrant n) h gs r a b = grant-broken a.0 h gs a.1 a.2 r n a.3 a.4 b
+  front-excludes f h gs r a b = a
 
   -- no task line and a task line with a broken load
   task-load : (rest : List ℕ) (number : ℕ) → NoneStands IsTaskHead task_head_row rest → IsBrokenLoad rest number → ⊥
@@ -72,60 +73,38 @@ module _ (bytes : List ℕ) where
       subst (λ (k : ℕ). IsBrokenAt IsLoad load_row b.behind k m a.rest) (ap (λ (h : TaskHead). h.count) heads.0) mine in
       (broken-one IsLoad load_row load-one b.behind b.task.count m n a.rest b.rest both b.broken).0
 
-  -- ---- how far a fault lets the bytes go
+  -- ---- a fault is one
 
-  -- the bytes of a fault in a task begin with a line on loads
-  pub begun-within : (h : Head) (r : List ℕ) → BeginsWithHead bytes h r → most_bytes < length bytes → ⊥
-  begun-within h r a large = omega (arith, a.within, large)
-
-  pub one-fault : (f g : ClaimFault) → HasFault bytes f → HasFault bytes g → f ≡ g
-  one-fault Memory g a b = absurd a
-  one-fault f Memory a b = absurd b
-  one-fault Behind g a b = absurd a
-  one-fault f Behind a b = absurd b
-  one-fault TooLarge TooLarge a b = refl
-  one-fault TooLarge NoHead a b = absurd (omega (arith, a, b.0))
-  one-fault TooLarge (NoGrant n) a b = absurd (begun-within b.0 b.1 b.3 a)
-  one-fault TooLarge NoLoads a b = absurd (begun-within b.0 b.3.behind b.3.head a)
-  one-fault TooLarge (NoTask n) a b = absurd (begun-within b.1.begins.head b.1.begins.begins.behind b.1.begins.begins.head a)
-  one-fault TooLarge (NoLoad t n) a b = absurd (begun-within b.1.begins.head b.1.begins.begins.behind b.1.begins.begins.head a)
-  one-fault NoHead TooLarge a b = absurd (omega (arith, b, a.0))
-  one-fault NoHead NoHead a b = refl
-  one-fault NoHead (NoGrant n) a b = absurd (head-excludes b.0 b.1 b.3 a.1)
-  one-fault NoHead NoLoads a b = absurd (begun-head b.0 b.1 b.2 b.3 a.1)
-  one-fault NoHead (NoTask n) a b = absurd (begun-head b.1.begins.head b.1.begins.grants b.1.begins.behind b.1.begins.begins a.1)
-  one-fault NoHead (NoLoad t n) a b = absurd (begun-head b.1.begins.head b.1.begins.grants b.1.begins.behind b.1.begins.begins a.1)
-  one-fault (NoGrant m) TooLarge a b = absurd (begun-within a.0 a.1 a.3 b)
-  one-fault (NoGrant m) NoHead a b = absurd (head-excludes a.0 a.1 a.3 b.1)
-  one-fault (NoGrant m) (NoGrant n) a b =
+  pub one-front_fault : (f g : ClaimFault) → HasFrontFault bytes f → HasFrontFault bytes g → f ≡ g
+  one-front_fault f NoLoads a b = absurd b
+  one-front_fault f (NoTask n) a b = absurd b
+  one-front_fault f (NoLoad t n) a b = absurd b
+  one-front_fault f Behind a b = absurd b
+  one-front_fault f Memory a b = absurd b
+  one-front_fault TooLarge TooLarge a b = refl
+  one-front_fault TooLarge NoHead a b = absurd (omega (arith, a, b.0))
+  one-front_fault TooLarge (NoGrant n) a b = absurd (omega (arith, a, b.3.within))
+  one-front_fault NoHead TooLarge a b = absurd (omega (arith, b, a.0))
+  one-front_fault NoHead NoHead a b = refl
+  one-front_fault NoHead (NoGrant n) a b = absurd (a.1 b.0 b.1 b.3.head)
+  one-front_fault (NoGrant m) TooLarge a b = absurd (omega (arith, b, a.3.within))
+  one-front_fault (NoGrant m) NoHead a b = absurd (b.1 a.0 a.1 a.3.head)
+  one-front_fault (NoGrant m) (NoGrant n) a b =
       let heads = heads-one a.0 b.0 a.1 b.1 a.3 b.3 in
       let mine : IsBrokenAt IsGrant grant_row b.1 a.0.count m a.2 = subst (λ bs. IsBrokenAt IsGrant grant_row bs a.0.count m a.2) heads.1 a.4 in
       let both : IsBrokenAt IsGrant grant_row b.1 b.0.count m a.2 = subst (λ (k : ℕ). IsBrokenAt IsGrant grant_row b.1 k m a.2) (ap (λ (x : Head). x.count) heads.0) mine in
       ap NoGrant (broken-one IsGrant grant_row grant-one b.1 b.0.count m n a.2 b.2 both b.4).0
-  one-fault (NoGrant m) NoLoads a b = absurd (grant-broken a.0 b.0 b.1 a.1 a.2 b.2 m a.3 a.4 b.3)
-  one-fault (NoGrant m) (NoTask n) a b =
-      absurd (grant-broken a.0 b.1.begins.head b.1.begins.grants a.1 a.2 b.1.begins.behind m a.3 a.4 b.1.begins.begins)
-  one-fault (NoGrant m) (NoLoad t n) a b =
-      absurd (grant-broken a.0 b.1.begins.head b.1.begins.grants a.1 a.2 b.1.begins.behind m a.3 a.4 b.1.begins.begins)
-  one-fault NoLoads TooLarge a b = absurd (begun-within a.0 a.3.behind a.3.head b)
-  one-fault NoLoads NoHead a b = absurd (begun-head a.0 a.1 a.2 a.3 b.1)
-  one-fault NoLoads (NoGrant n) a b = absurd (grant-broken b.0 a.0 a.1 b.1 b.2 a.2 n b.3 b.4 a.3)
+  one-front_fault f g a b = absurd a
+
+  pub one-fault : (f g : ClaimFault) → HasFault bytes f → HasFault bytes g → f ≡ g
   one-fault NoLoads NoLoads a b = refl
   one-fault NoLoads (NoTask n) a b = absurd (loads-broken a.0 a.1 a.2 b.1.behind (Some b.1.count) a.3 a.4 b.1.begins)
   one-fault NoLoads (NoLoad t n) a b = absurd (loads-broken a.0 a.1 a.2 b.1.behind (Some b.1.count) a.3 a.4 b.1.begins)
-  one-fault (NoTask m) TooLarge a b = absurd (begun-within a.1.begins.head a.1.begins.begins.behind a.1.begins.begins.head b)
-  one-fault (NoTask m) NoHead a b = absurd (begun-head a.1.begins.head a.1.begins.grants a.1.begins.behind a.1.begins.begins b.1)
-  one-fault (NoTask m) (NoGrant n) a b =
-      absurd (grant-broken b.0 a.1.begins.head a.1.begins.grants b.1 b.2 a.1.begins.behind n b.3 b.4 a.1.begins.begins)
   one-fault (NoTask m) NoLoads a b = absurd (loads-broken b.0 b.1 b.2 a.1.behind (Some a.1.count) b.3 b.4 a.1.begins)
   one-fault (NoTask m) (NoTask n) a b = ap NoTask (tasks-one m n a.0 b.0 a.1 b.1).0
   one-fault (NoTask m) (NoLoad t n) a b =
       let same = tasks-one m t a.0 b.0 a.1 b.1 in
       absurd (task-load b.0 n (subst (λ bs. NoneStands IsTaskHead task_head_row bs) same.1 a.2) b.2)
-  one-fault (NoLoad s m) TooLarge a b = absurd (begun-within a.1.begins.head a.1.begins.begins.behind a.1.begins.begins.head b)
-  one-fault (NoLoad s m) NoHead a b = absurd (begun-head a.1.begins.head a.1.begins.grants a.1.begins.behind a.1.begins.begins b.1)
-  one-fault (NoLoad s m) (NoGrant n) a b =
-      absurd (grant-broken b.0 a.1.begins.head a.1.begins.grants b.1 b.2 a.1.begins.behind n b.3 b.4 a.1.begins.begins)
   one-fault (NoLoad s m) NoLoads a b = absurd (loads-broken b.0 b.1 b.2 a.1.behind (Some a.1.count) b.3 b.4 a.1.begins)
   one-fault (NoLoad s m) (NoTask n) a b =
       let same = tasks-one n s b.0 a.0 b.1 a.1 in
@@ -134,6 +113,13 @@ module _ (bytes : List ℕ) where
       let same = tasks-one s t a.0 b.0 a.1 b.1 in
       let number = loads-number b.0 m n (subst (λ bs. IsBrokenLoad bs m) same.1 a.2) b.2 in
       λ i. NoLoad (same.0 i) (number i)
+  one-fault NoLoads g a b = absurd (front-excludes g a.0 a.1 a.2 b a.3)
+  one-fault (NoTask m) g a b = absurd (front-excludes g a.1.begins.head a.1.begins.grants a.1.begins.behind b a.1.begins.begins)
+  one-fault (NoLoad s m) g a b = absurd (front-excludes g a.1.begins.head a.1.begins.grants a.1.begins.behind b a.1.begins.begins)
+  one-fault f NoLoads a b = absurd (front-excludes f b.0 b.1 b.2 a b.3)
+  one-fault f (NoTask n) a b = absurd (front-excludes f b.1.begins.head b.1.begins.grants b.1.begins.behind a b.1.begins.begins)
+  one-fault f (NoLoad t n) a b = absurd (front-excludes f b.1.begins.head b.1.begins.grants b.1.begins.behind a b.1.begins.begins)
+  one-fault f g a b = one-front_fault f g a b
 
   -- ---- a claim
 
@@ -203,41 +189,7 @@ module _ (bytes : List ℕ) where
           all-broken IsTask task_rows task-one b.behind ts c.answer rest b.count number mine (same_Some (length ts) b.count same) b.broken
 
   pub claim-fault : (c : Claim) (f : ClaimFault) → IsClaimDocument bytes c → HasFault bytes f → ⊥
-  claim-fault c TooLarge doc fault = omega (arith, fault, doc.within)
-  claim-fault c NoHead doc fault = begun-head (head_of c) c.grants (loads_text c.loads ++ c.answer) (claim-grants c doc) fault.1
-  claim-fault c (NoGrant n) doc fault = grant-broken fault.0 (head_of c) c.grants fault.1 fault.2 (loads_text c.loads ++ c.answer) n fault.3 fault.4 (claim-grants c doc)
   claim-fault c NoLoads doc fault = loads-broken fault.0 fault.1 fault.2 (tasks_text c.loads ++ c.answer) (head_of_loads c.loads) fault.3 fault.4 (claim-loads c doc)
   claim-fault c (NoTask n) doc fault = no-broken_task c doc n fault.0 fault.1
   claim-fault c (NoLoad t n) doc fault = no-broken_task c doc t fault.0 fault.1
-  claim-fault c Behind doc fault = fault
-  claim-fault c Memory doc fault = fault
-
--- ---- what an answer that is true says of all answers
-
-abbrev AnswersOk : List ℕ → Result Claim ClaimFault → Type 0
-AnswersOk bytes r = IfOk r (IsClaimDocument bytes)
-
-abbrev AnswersErr : List ℕ → Result Claim ClaimFault → Type 0
-AnswersErr bytes r = IfErr r (λ (f : ClaimFault). f ≢ Memory → HasFault bytes f)
-
-at-fault : (bytes : List ℕ) (f : ClaimFault) (P : ClaimFault → Type 0) → (f ≢ Memory → HasFault bytes f) → (HasFault bytes f → P f) → P Memory → P f
-at-fault bytes TooLarge P told then' other = then' (told (λ (e : TooLarge ≡ Memory). absurd (cc)))
-at-fault bytes NoHead P told then' other = then' (told (λ (e : NoHead ≡ Memory). absurd (cc)))
-at-fault bytes (NoGrant n) P told then' other = then' (told (λ (e : NoGrant n ≡ Memory). absurd (cc)))
-at-fault bytes NoLoads P told then' other = then' (told (λ (e : NoLoads ≡ Memory). absurd (cc)))
-at-fault bytes (NoTask n) P told then' other = then' (told (λ (e : NoTask n ≡ Memory). absurd (cc)))
-at-fault bytes (NoLoad t n) P told then' other = then' (told (λ (e : NoLoad t n ≡ Memory). absurd (cc)))
-at-fault bytes Behind P told then' other = then' (told (λ (e : Behind ≡ Memory). absurd (cc)))
-at-fault bytes Memory P told then' other = other
-
-pub reads : (bytes : List ℕ) (r : Result Claim ClaimFault) → AnswersOk bytes r → AnswersErr bytes r → (c : Claim) → IsClaimDocument bytes c → (r ≡ Ok c) ⊎ (r ≡ Err Memory)
-reads bytes (Ok d) ok err c doc = inl (ap Ok (one-claim bytes d c ok doc))
-reads bytes (Err f) ok err c doc =
-    at-fault bytes f (λ (g : ClaimFault). (◌≡◌ {A = Result Claim ClaimFault} (Err g) (Ok c)) ⊎ (◌≡◌ {A = Result Claim ClaimFault} (Err g) (Err Memory))) err
-    (λ fault. absurd (claim-fault bytes c f doc fault)) (inr refl)
-
-pub refuses : (bytes : List ℕ) (r : Result Claim ClaimFault) → AnswersOk bytes r → AnswersErr bytes r → (g : ClaimFault) → HasFault bytes g → (r ≡ Err g) ⊎ (r ≡ Err Memory)
-refuses bytes (Ok d) ok err g fault = absurd (claim-fault bytes d g ok fault)
-refuses bytes (Err f) ok err g fault =
-    at-fault bytes f (λ (x : ClaimFault). (◌≡◌ {A = Result Claim ClaimFault} (Err x) (Err g)) ⊎ (◌≡◌ {A = Result Claim ClaimFault} (Err x) (Err Memory))) err
-    (λ own. inl (ap Err (one-fault bytes f g own fault))) (inr refl)
+  claim-fault c f doc fault = front-excludes f (head_of c) c.grants (loads_text c.loads ++ c.answer) fault (claim-grants c doc)

@@ -2,13 +2,12 @@
 use Rattle.std.specs.Prelude.{◌≡◌, ℕ, ◌<◌, ◌≤◌, All, List, ◌++◌, length, flat_map}
 use Rattle.dn_base.specs.declared.ids.Grant.{Grant}
 use Rattle.text_pieces.specs.Field.{Stands, NoneStands}
-use Rattle.text_pieces.specs.Parts.{IsBrokenAt}
 use Rattle.claims.specs.declared.claim.Question.{Question}
 use Rattle.claims.specs.declared.claim.GrantOrder.{GrantOrder}
 use Rattle.claims.specs.declared.claim.ClaimFault.{ClaimFault}
-use Rattle.claims.specs.declared.claim.ClaimFault.TheVariants.{TooLarge, Head as NoHead, Grant as NoGrant, Loads as NoLoads, Task as NoTask, Load as NoLoad, Behind, Memory}
+use Rattle.claims.specs.declared.claim.ClaimFault.TheVariants.{TooLarge, Head as NoHead, Behind}
 use Rattle.claims.specs.Claim.{most_bytes, Head, IsHead, head_text, IsQuestion, question_text, IsGrant, grant_row}
-use Rattle.claims.specs.Faults.{BeginsWithHead, BeginsWithGrants}
+use Rattle.claims.specs.Faults.{BeginsWithGrants, HasFrontFault}
 
 -- ---- a question
 
@@ -28,11 +27,7 @@ abbrev pub HasQuestionFault : List ℕ → ClaimFault → Type 0
 HasQuestionFault bytes TooLarge = most_bytes < length bytes
 HasQuestionFault bytes NoHead = (length bytes ≤ most_bytes) × NoneStands IsQuestion question_text bytes
 HasQuestionFault bytes Behind = (q : Question) × (rest : List ℕ) × BeginsWithQuestion bytes q rest × (0 < length rest)
-HasQuestionFault bytes (NoGrant number) = ⊥
-HasQuestionFault bytes NoLoads = ⊥
-HasQuestionFault bytes (NoTask number) = ⊥
-HasQuestionFault bytes (NoLoad task number) = ⊥
-HasQuestionFault bytes Memory = ⊥
+HasQuestionFault bytes _ = ⊥
 
 -- ---- a question and the order of the grants
 
@@ -56,11 +51,5 @@ pub record IsOrderDocument (bytes : List ℕ) (o : GrantOrder) : Type 0 where
 
 -- why the bytes don't tell a question and the order of the grants, and nothing else
 abbrev pub HasOrderFault : List ℕ → ClaimFault → Type 0
-HasOrderFault bytes TooLarge = most_bytes < length bytes
-HasOrderFault bytes NoHead = (length bytes ≤ most_bytes) × NoneStands IsHead head_text bytes
-HasOrderFault bytes (NoGrant number) = (h : Head) × (behind : List ℕ) × (rest : List ℕ) × BeginsWithHead bytes h behind × IsBrokenAt IsGrant grant_row behind h.count number rest
 HasOrderFault bytes Behind = (h : Head) × (gs : List Grant) × (rest : List ℕ) × BeginsWithGrants bytes h gs rest × (0 < length rest)
-HasOrderFault bytes NoLoads = ⊥
-HasOrderFault bytes (NoTask number) = ⊥
-HasOrderFault bytes (NoLoad task number) = ⊥
-HasOrderFault bytes Memory = ⊥
+HasOrderFault bytes f = HasFrontFault bytes f

@@ -4,7 +4,7 @@ use Rattle.dn_base.specs.declared.ids.Grant.{Grant}
 use Rattle.text_pieces.specs.Field.{Stands, NoneStands}
 use Rattle.text_pieces.specs.Parts.{StandAll, IsBrokenAt}
 use Rattle.claims.specs.declared.claim.ClaimFault.{ClaimFault}
-use Rattle.claims.specs.declared.claim.ClaimFault.TheVariants.{TooLarge, Head as NoHead, Grant as NoGrant, Loads as NoLoads, Task as NoTask, Load as NoLoad, Behind, Memory}
+use Rattle.claims.specs.declared.claim.ClaimFault.TheVariants.{TooLarge, Head as NoHead, Grant as NoGrant, Loads as NoLoads, Task as NoTask, Load as NoLoad}
 use Rattle.claims.specs.declared.rows.TaskHead.{TaskHead}
 use Rattle.claims.specs.Claim.{most_bytes, Head, IsHead, head_text, IsGrant, grant_row, IsLoadsHead, loads_head_row, IsTask, task_rows, IsTaskHead, task_head_row, IsLoad, load_row}
 
@@ -43,14 +43,18 @@ pub record IsBrokenLoad (bytes : List ℕ) (number : ℕ) : Type 0 where
   pub head : Stands IsTaskHead task_head_row bytes task behind
   pub broken : IsBrokenAt IsLoad load_row behind task.count number rest
 
--- there is no head; the line of a grant isn't there; no line on loads follows the grants; a task's line isn't there, or one of
--- its loads. Out of memory says nothing of the bytes
+-- why the bytes don't begin with a head and its grants: they are too many, there is no head, or the line of a grant isn't there.
+-- Out of memory says nothing of the bytes
+abbrev pub HasFrontFault : List ℕ → ClaimFault → Type 0
+HasFrontFault bytes TooLarge = most_bytes < length bytes
+HasFrontFault bytes NoHead = (length bytes ≤ most_bytes) × NoneStands IsHead head_text bytes
+HasFrontFault bytes (NoGrant number) = (h : Head) × (behind : List ℕ) × (rest : List ℕ) × BeginsWithHead bytes h behind × IsBrokenAt IsGrant grant_row behind h.count number rest
+HasFrontFault bytes _ = ⊥
+
+-- why some bytes are no claim: they don't begin with a head and its grants; no line on loads follows these; a task's line isn't
+-- there, or one of its loads
 abbrev pub HasFault : List ℕ → ClaimFault → Type 0
-HasFault bytes TooLarge = most_bytes < length bytes
-HasFault bytes NoHead = (length bytes ≤ most_bytes) × NoneStands IsHead head_text bytes
-HasFault bytes (NoGrant number) = (h : Head) × (behind : List ℕ) × (rest : List ℕ) × BeginsWithHead bytes h behind × IsBrokenAt IsGrant grant_row behind h.count number rest
 HasFault bytes NoLoads = (h : Head) × (gs : List Grant) × (rest : List ℕ) × BeginsWithGrants bytes h gs rest × NoneStands IsLoadsHead loads_head_row rest
 HasFault bytes (NoTask number) = (rest : List ℕ) × IsBrokenTask bytes number rest × NoneStands IsTaskHead task_head_row rest
 HasFault bytes (NoLoad task number) = (rest : List ℕ) × IsBrokenTask bytes task rest × IsBrokenLoad rest number
-HasFault bytes Behind = ⊥
-HasFault bytes Memory = ⊥
+HasFault bytes f = HasFrontFault bytes f

@@ -7,8 +7,8 @@ ghost use Rattle.claims.specs.Alone.{IsQuestionDocument, HasQuestionFault, IsOrd
 ghost use Rattle.claims.specs.Claim.{most_bytes};
 
 use crate::claim::{ClaimFault, GrantOrder, Question};
-use crate::head::{read_heading, read_opening};
-use crate::rows::push_grants;
+use crate::front::{push_front, question_of};
+use crate::head::read_opening;
 use dn_base::{MOST_OF_DOCUMENT, Sequence};
 use std::alloc::Global;
 
@@ -28,11 +28,7 @@ fn question(alloc: Global, bytes: &[u8]) -> Result<Question, ClaimFault>
     if opening.rest.len() > 0 {
         return Err(ClaimFault::Behind);
     }
-    let text = Vec::from_slice(alloc, opening.text)?;
-    Ok(Question {
-        fuel: opening.fuel,
-        text: Sequence::from_vec(text),
-    })
+    Ok(question_of(alloc, opening)?)
 }
 
 /// The question and the order of the grants that some bytes tell alone, or their fault.
@@ -42,22 +38,12 @@ fn order(alloc: Global, bytes: &[u8]) -> Result<GrantOrder, ClaimFault>
     ensures large { most_bytes < length bytes.now → result ≡ Err AreTooMany }
     ensures head { HasOrderFault bytes.now NoHead → result ≡ Err NoHead }
 {
-    if bytes.len() > MOST_OF_DOCUMENT {
-        return Err(ClaimFault::TooLarge);
-    }
-    let Some(heading) = read_heading(bytes) else {
-        return Err(ClaimFault::Head);
-    };
     let mut grants = Sequence::new(alloc);
-    let rest = push_grants(&mut grants, heading.count, heading.rest)?;
-    if rest.len() > 0 {
+    let front = push_front(&mut grants, bytes)?;
+    if front.rest.len() > 0 {
         return Err(ClaimFault::Behind);
     }
-    let text = Vec::from_slice(alloc, heading.text)?;
-    let question = Question {
-        fuel: heading.fuel,
-        text: Sequence::from_vec(text),
-    };
+    let question = question_of(alloc, front)?;
     Ok(GrantOrder { question, grants })
 }
 

@@ -11,6 +11,7 @@ mod diagnosis;
 mod diagnosis_laws;
 mod diagnosis_writing;
 mod document_laws;
+mod front;
 mod head;
 mod judge_laws;
 mod judging;

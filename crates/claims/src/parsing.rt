@@ -6,10 +6,10 @@ ghost use Rattle.claims.specs.Claim.{IsClaimDocument, most_bytes};
 ghost use Rattle.claims.specs.Faults.{HasFault};
 ghost use Rattle.claims.specs.Rows.{IsLoadsPart, FailsPart};
 
-use crate::claim::{Claim, ClaimFault, Question};
-use crate::head::read_heading;
-use crate::rows::{loads_head, push_grants, push_tasks};
-use dn_base::{MOST_OF_DOCUMENT, Sequence};
+use crate::claim::{Claim, ClaimFault};
+use crate::front::{push_front, question_of};
+use crate::rows::{loads_head, push_tasks};
+use dn_base::Sequence;
 use flat_machine::TaskLoads;
 use std::alloc::Global;
 
@@ -45,22 +45,12 @@ fn read(alloc: Global, bytes: &[u8]) -> Result<Claim, ClaimFault>
     ensures large { most_bytes < length bytes.now → result ≡ Err AreTooMany }
     ensures head { HasFault bytes.now NoHead → result ≡ Err NoHead }
 {
-    if bytes.len() > MOST_OF_DOCUMENT {
-        return Err(ClaimFault::TooLarge);
-    }
-    let Some(heading) = read_heading(bytes) else {
-        return Err(ClaimFault::Head);
-    };
     let mut grants = Sequence::new(alloc);
-    let rest = push_grants(&mut grants, heading.count, heading.rest)?;
+    let front = push_front(&mut grants, bytes)?;
     let mut loads = None;
-    let answer = put_loads(alloc, &mut loads, rest)?;
-    let text = Vec::from_slice(alloc, heading.text)?;
+    let answer = put_loads(alloc, &mut loads, front.rest)?;
+    let question = question_of(alloc, front)?;
     let answer = Vec::from_slice(alloc, answer)?;
-    let question = Question {
-        fuel: heading.fuel,
-        text: Sequence::from_vec(text),
-    };
     Ok(Claim {
         question,
         grants,
