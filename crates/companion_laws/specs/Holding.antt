@@ -33,9 +33,10 @@ pub record HasHolder (P : ProgramParts) (fuel : ℕ) (grants : List Grant) (phas
   pub told : holder_of grants phase lock ≡ Some core
   pub holds : HoldsLock P fuel grants phase core lock
 
--- a reported run was explained: after each of its lines comes what its lines say of it, and their grants are those of the run
+-- a reported run was explained: after each of its lines comes what its lines say of it, and the run of the program by their grants,
+-- which are those of the run
 pub record IsReportExplained (text : List ℕ) (l : Located) (r : RunRecord) (e : Explained) : Type 0 where
   pub lines : List AnswerLine
   pub are : reported r ≡ flat_map answer_line lines
   pub grants : answer_grants lines ≡ r.grants
-  pub said : e ≡ Text (answer_and_sentences text l lines)
+  pub said : e ≡ Text (answer_and_sentences text l (Some l.program) lines)

@@ -1,14 +1,15 @@
 -- Answers that stand one after the other.
-use Rattle.std.proofs.Common.{◌≡◌, ℕ, zero, suc, ◌+◌, ◌-◌, ◌<◌, ◌≤◌, Bool, true, false, not, cond, List, [], ◌∷◌, ◌++◌, length, take, drop, map, get_or, flat_map, if◌then◌else◌, refl, sym, ap, subst, ◌∙◌, arith, append_assoc}
+use Rattle.std.proofs.Common.{◌≡◌, ℕ, zero, suc, ◌+◌, ◌-◌, ◌<◌, ◌≤◌, Bool, true, false, not, cond, List, [], ◌∷◌, ◌++◌, length, take, drop, map, get_or, flat_map, if◌then◌else◌, Option, Some, None, refl, sym, ap, subst, ◌∙◌, arith, append_assoc}
 use Rattle.std.specs.List.{All, prefix_len, slice_range}
 use Rattle.std.proofs.lemmas.List.{append-nil, map-append, map_more, take_all, drop_all, length-drop, take-map, drop-map}
 use Rattle.std.proofs.lemmas.List.Elements.{All-nil, All-cons, All-head, All-tail, All-append, All-take, All-drop}
 use Rattle.std.proofs.lemmas.Grind.{flat_map-append}
+use Rattle.region_table.specs.Program.{ProgramParts}
 use Rattle.text_places.specs.declared.places.Located.{Located}
 use Rattle.explained_answer.specs.declared.line.AnswerLine.{AnswerLine}
 use Rattle.explained_answer.specs.declared.parsing.ReadLine.{ReadLine}
 use Rattle.explained_answer.specs.declared.several.OneAnswer.{OneAnswer}
-use Rattle.explained_answer.specs.Lines.{IsLineOf, IsWritten, line_read, lines_in, lines_of_one, HasLinesWithin, answer_and_sentences, lines_and_sentences}
+use Rattle.explained_answer.specs.Lines.{IsLineOf, IsWritten, line_read, lines_in, lines_of_one, HasLinesWithin, answer_and_sentences, answers_run_again, answers_and_sentences, lines_and_sentences}
 use Rattle.explained_answer.specs.Several.{begins_answer, put_before, answers_in, IsOneAnswer, goes_on}
 
 -- ---- the first answer of some lines
@@ -144,12 +145,12 @@ fit-in-one l lines start end all =
     (subst (All (IsLineOf l)) (drop-map line_read start lines) (All-drop (IsLineOf l) start (lines_in lines) all)))
 
 -- one answer more, after the bytes `front`
-pub one-more-explained : (text : List ℕ) (l : Located) (lines : List ReadLine) (answers : List OneAnswer) (i : ℕ) (d : OneAnswer) (front before after : List ℕ) → i < length answers
-    → before ≡ front ++ flat_map (answer_and_sentences text l) (map (lines_of_one lines) (take i answers))
-    → after ≡ before ++ answer_and_sentences text l (lines_of_one lines (get_or answers i d))
-    → after ≡ front ++ flat_map (answer_and_sentences text l) (map (lines_of_one lines) (take (i + 1) answers))
-one-more-explained text l lines answers i d front before after within so_far pushed =
-    let f = answer_and_sentences text l in
+pub one-more-explained : (text : List ℕ) (l : Located) (again : Option ProgramParts) (lines : List ReadLine) (answers : List OneAnswer) (i : ℕ) (d : OneAnswer) (front before after : List ℕ)
+    → i < length answers → before ≡ front ++ flat_map (answer_and_sentences text l again) (map (lines_of_one lines) (take i answers))
+    → after ≡ before ++ answer_and_sentences text l again (lines_of_one lines (get_or answers i d))
+    → after ≡ front ++ flat_map (answer_and_sentences text l again) (map (lines_of_one lines) (take (i + 1) answers))
+one-more-explained text l again lines answers i d front before after within so_far pushed =
+    let f = answer_and_sentences text l again in
     let a = lines_of_one lines (get_or answers i d) in
     let told = map (lines_of_one lines) (take i answers) in
     pushed ∙ ap (λ (bs : List ℕ). bs ++ f a) so_far
@@ -158,14 +159,29 @@ one-more-explained text l lines answers i d front before after within so_far pus
     ∙ ap (λ (bs : List ℕ). front ++ bs) (sym (flat_map-append f told (a ∷ [])))
     ∙ ap (λ (answered : List (List AnswerLine)). front ++ flat_map f answered) (sym (map_more (lines_of_one lines) answers i d within))
 
--- all answers
-pub all-explained : (text : List ℕ) (l : Located) (lines : List ReadLine) (answers : List OneAnswer) (i : ℕ) (front out : List ℕ) → length answers ≤ i
-    → map (lines_of_one lines) answers ≡ answers_in (lines_in lines) → out ≡ front ++ flat_map (answer_and_sentences text l) (map (lines_of_one lines) (take i answers))
+-- all of these answers
+pub these-explained : (text : List ℕ) (l : Located) (again : Option ProgramParts) (lines : List ReadLine) (answers : List OneAnswer) (i : ℕ) (front out : List ℕ) → length answers ≤ i
+    → out ≡ front ++ flat_map (answer_and_sentences text l again) (map (lines_of_one lines) (take i answers))
+    → out ≡ front ++ flat_map (answer_and_sentences text l again) (map (lines_of_one lines) answers)
+these-explained text l again lines answers i front out none so_far =
+    so_far ∙ ap (λ (told : List OneAnswer). front ++ flat_map (answer_and_sentences text l again) (map (lines_of_one lines) told)) (take_all i answers none)
+
+-- the first answers, and then the others
+pub all-explained : (text : List ℕ) (l : Located) (lines : List ReadLine) (answers first others : List OneAnswer) (again alone : Option ProgramParts) (front between out : List ℕ)
+    → again ≡ Some l.program → alone ≡ None → first ≡ take answers_run_again answers → others ≡ drop answers_run_again answers
+    → map (lines_of_one lines) answers ≡ answers_in (lines_in lines)
+    → between ≡ front ++ flat_map (answer_and_sentences text l again) (map (lines_of_one lines) first)
+    → out ≡ between ++ flat_map (answer_and_sentences text l alone) (map (lines_of_one lines) others)
     → out ≡ front ++ lines_and_sentences text l (lines_in lines)
-all-explained text l lines answers i front out none are so_far =
-    let f = answer_and_sentences text l in
-    so_far ∙ ap (λ (told : List OneAnswer). front ++ flat_map f (map (lines_of_one lines) told)) (take_all i answers none)
-    ∙ ap (λ (answered : List (List AnswerLine)). front ++ flat_map f answered) are
+all-explained text l lines answers first others again alone front between out own without firsts rest are so_far pushed =
+    let g = lines_of_one lines in
+    let begun : map g first ≡ take answers_run_again (answers_in (lines_in lines)) =
+    ap (map g) firsts ∙ sym (take-map g answers_run_again answers) ∙ ap (take answers_run_again) are in
+    let ended : map g others ≡ drop answers_run_again (answers_in (lines_in lines)) =
+    ap (map g) rest ∙ sym (drop-map g answers_run_again answers) ∙ ap (drop answers_run_again) are in
+    pushed ∙ (λ i. so_far i ++ flat_map (answer_and_sentences text l (without i)) (ended i))
+    ∙ append_assoc front (flat_map (answer_and_sentences text l again) (map g first)) (flat_map (answer_and_sentences text l None) (drop answers_run_again (answers_in (lines_in lines))))
+    ∙ (λ i. front ++ (flat_map (answer_and_sentences text l (own i)) (begun i) ++ flat_map (answer_and_sentences text l None) (drop answers_run_again (answers_in (lines_in lines)))))
 
 -- ---- whole answers
 
@@ -221,10 +237,31 @@ answers-joined ((x ∷ xs) ∷ answers) all =
     own-lines x xs (joined answers) (All-head IsOneAnswer (x ∷ xs) answers all).1 (joined-begins answers behind)
     ∙ ap (λ (others : List (List AnswerLine)). (x ∷ xs) ∷ others) (answers-joined answers behind)
 
--- one answer is explained by its own grants
-pub one-explained : (text : List ℕ) (l : Located) (answer : List AnswerLine) → IsOneAnswer answer → lines_and_sentences text l answer ≡ answer_and_sentences text l answer
+-- one answer alone
+pub one-explained : (text : List ℕ) (l : Located) (answer : List AnswerLine) → IsOneAnswer answer
+    → lines_and_sentences text l answer ≡ answer_and_sentences text l (Some l.program) answer
 one-explained text l [] one = absurd one
 one-explained text l (x ∷ xs) one =
-    ap (λ (ys : List AnswerLine). flat_map (answer_and_sentences text l) (answers_in (x ∷ ys))) (sym (append-nil xs))
-    ∙ ap (flat_map (answer_and_sentences text l)) (own-lines x xs [] one.1 tt)
-    ∙ append-nil (answer_and_sentences text l (x ∷ xs))
+    ap (λ (ys : List AnswerLine). answers_and_sentences text l (answers_in (x ∷ ys))) (sym (append-nil xs))
+    ∙ ap (answers_and_sentences text l) (own-lines x xs [] one.1 tt)
+    ∙ append-nil (answer_and_sentences text l (Some l.program) (x ∷ xs) ++ [])
+    ∙ append-nil (answer_and_sentences text l (Some l.program) (x ∷ xs))
+
+-- several answers, each as if it stood alone
+each-alone : (text : List ℕ) (l : Located) (answers : List (List AnswerLine)) → All IsOneAnswer answers
+    → flat_map (answer_and_sentences text l (Some l.program)) answers ≡ flat_map (lines_and_sentences text l) answers
+each-alone text l [] all = refl
+each-alone text l (answer ∷ answers) all =
+    let first = sym (one-explained text l answer (All-head IsOneAnswer answer answers all)) in
+    let others = each-alone text l answers (All-tail IsOneAnswer answer answers all) in
+    λ i. first i ++ others i
+
+pub few-explained : (text : List ℕ) (l : Located) (answers : List (List AnswerLine)) → All IsOneAnswer answers → length answers ≤ answers_run_again
+    → lines_and_sentences text l (joined answers) ≡ flat_map (lines_and_sentences text l) answers
+few-explained text l answers all few =
+    ap (answers_and_sentences text l) (answers-joined answers all)
+    ∙ (λ i.
+    flat_map (answer_and_sentences text l (Some l.program)) (take_all answers_run_again answers few i)
+    ++ flat_map (answer_and_sentences text l None) (drop_all answers_run_again answers few i))
+    ∙ append-nil (flat_map (answer_and_sentences text l (Some l.program)) answers)
+    ∙ each-alone text l answers all

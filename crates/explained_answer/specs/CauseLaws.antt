@@ -1,5 +1,5 @@
 -- What holds of the task that is called the cause of an answer, and of the holder of a lock that is said to have ended.
-use Rattle.std.specs.Prelude.{◌≡◌, Bool, true, false, ◌||◌, List, Some}
+use Rattle.std.specs.Prelude.{◌≡◌, true, false, ◌||◌, List, Some}
 use Rattle.std.specs.List.{IsAmong}
 use Rattle.dn_base.specs.declared.ids.LockId.{LockId}
 use Rattle.rv_core.specs.declared.ending.EndShown.TheVariants.{Waits}

@@ -1,6 +1,6 @@
 -- The tasks of an answer that ended, by the lines of its tasks: which of them is the cause where a run trapped or is stuck, and
 -- which of them held a lock when they ended, so that it isn't given up.
-use Rattle.std.specs.Prelude.{◌≡◌, ℕ, Bool, true, false, not, ◌&&◌, ◌||◌, ◌==◌, nat_lt, List, [], ◌∷◌, ◌++◌, codes, reverse, flat_map, find, slice_index_or, slice_set, Option, Some, None, if◌then◌else◌}
+use Rattle.std.specs.Prelude.{◌≡◌, ℕ, Bool, not, ◌&&◌, ◌||◌, ◌==◌, nat_lt, List, [], ◌∷◌, ◌++◌, codes, reverse, flat_map, find, slice_index_or, slice_set, Option, Some, None, if◌then◌else◌}
 use Rattle.std.specs.Fmt.{decimal}
 use Rattle.std.specs.Option.{option_or}
 use Rattle.dn_base.specs.declared.ids.Grant.{Grant}

@@ -1,5 +1,5 @@
 -- What is said after each line of an answer, and which lines an answer of a program may have.
-use Rattle.std.specs.Prelude.{◌≡◌, ◌⊎◌, ℕ, ◌+◌, ◌<◌, ◌≤◌, Bool, true, false, ◌&&◌, ◌==◌, nat_lt, List, [], ◌++◌, codes, length, find, map, flat_map, Option, Some, None}
+use Rattle.std.specs.Prelude.{◌≡◌, ◌⊎◌, ℕ, ◌+◌, ◌<◌, ◌≤◌, Bool, true, false, ◌&&◌, ◌==◌, nat_lt, List, [], ◌++◌, codes, length, take, drop, find, map, flat_map, Option, Some, None}
 use Rattle.std.specs.Fmt.{decimal}
 use Rattle.region_table.specs.Program.{ProgramParts, tasks_of}
 use Rattle.std.specs.List.{All, slice_range}
@@ -24,6 +24,8 @@ use Rattle.explained_answer.specs.declared.several.OneAnswer.{OneAnswer}
 use Rattle.explained_answer.specs.declared.parsing.ReadAnswer.{ReadAnswer}
 use Rattle.explained_answer.specs.declared.parsing.ReadAnswer as read_answer
 use Rattle.explained_answer.specs.Ended.{named_on, outcome_text, ended_holder_text}
+use Rattle.sentences.specs.declared.stopping.Stop.{Stop}
+use Rattle.explained_answer.specs.RunAgain.{answer_stops, pc_on}
 use Rattle.explained_answer.specs.Holders.{answer_grants, holder_on}
 use Rattle.explained_answer.specs.Several.{answers_in}
 
@@ -65,32 +67,43 @@ abbrev pub unproven_text : List ℕ → Places → ℕ → ℕ → ℕ → List 
 unproven_text text places phase core pc = unproven_at text (find (is_task_of phase core) places.tasks) (code_place_at places pc)
 
 -- what is said after a line: for a task that didn't finish, why; for an instruction, where it stands; otherwise the names of
--- words and locks. `holder` is the core that holds the lock for which the line's task waits, if the answer tells that; `named` is
--- the cause of an outcome, or the task of this core, if it ended
-abbrev pub sentences_behind : List ℕ → Located → Option ℕ → Option TaskEnd → AnswerLine → List ℕ
-sentences_behind text l holder named (line.TheVariants.Outcome o) = outcome_text l.places o named
-sentences_behind text l holder named (line.TheVariants.Task t) = ending_text text l holder t ++ ended_holder_text l.places named
-sentences_behind text l holder named (line.TheVariants.Word word value) = named_word l word
-sentences_behind text l holder named (line.TheVariants.Grant g) = named_lock l g.lock.0
-sentences_behind text l holder named (line.TheVariants.Unbounded phase core pc) = unproven_text text l.places phase core pc
-sentences_behind text l holder named (line.TheVariants.Count c number) = []
-sentences_behind text l holder named (line.TheVariants.Sum value) = []
-sentences_behind text l holder named (line.TheVariants.Time ticks) = []
-sentences_behind text l holder named (line.TheVariants.Link k) = []
-sentences_behind text l holder named (line.TheVariants.Checked phases tasks words) = []
-sentences_behind text l holder named (line.TheVariants.Fixed f) = []
+-- words and locks. `pc` is the address of the next instruction of the line's task, if that is known; `holder` is the core that holds
+-- the lock for which it waits, if the answer tells that; `named` is the cause of an outcome, or the task of this core, if it ended
+abbrev pub sentences_behind : List ℕ → Located → Option ℕ → Option ℕ → Option TaskEnd → AnswerLine → List ℕ
+sentences_behind text l pc holder named (line.TheVariants.Outcome o) = outcome_text l.places o named
+sentences_behind text l pc holder named (line.TheVariants.Task t) = ending_text text l pc holder t ++ ended_holder_text l.places named
+sentences_behind text l pc holder named (line.TheVariants.Word word value) = named_word l word
+sentences_behind text l pc holder named (line.TheVariants.Grant g) = named_lock l g.lock.0
+sentences_behind text l pc holder named (line.TheVariants.Unbounded phase core at) = unproven_text text l.places phase core at
+sentences_behind text l pc holder named (line.TheVariants.Count c number) = []
+sentences_behind text l pc holder named (line.TheVariants.Sum value) = []
+sentences_behind text l pc holder named (line.TheVariants.Time ticks) = []
+sentences_behind text l pc holder named (line.TheVariants.Link k) = []
+sentences_behind text l pc holder named (line.TheVariants.Checked phases tasks words) = []
+sentences_behind text l pc holder named (line.TheVariants.Fixed f) = []
 
--- a line of an answer that has these lines, and what is said after it
-abbrev pub explained_line : List ℕ → Located → List AnswerLine → AnswerLine → List ℕ
-explained_line text l lines x = answer_line x ++ sentences_behind text l (holder_on (answer_grants lines) x) (named_on lines x) x
+-- a line of an answer that has these lines, and whose tasks stand there, and what is said after it
+abbrev pub explained_line : List ℕ → Located → List Stop → List AnswerLine → AnswerLine → List ℕ
+explained_line text l stops lines x =
+    answer_line x ++ sentences_behind text l (pc_on stops x) (holder_on (answer_grants lines) x) (named_on lines x) x
 
--- the lines of one answer, each with what is said after it
-abbrev pub answer_and_sentences : List ℕ → Located → List AnswerLine → List ℕ
-answer_and_sentences text l lines = flat_map (explained_line text l lines) lines
+-- the lines of one answer, each with what is said after it. `again` is the program that is run once more for where the answer's tasks
+-- stand; without one, that isn't said
+abbrev pub answer_and_sentences : List ℕ → Located → Option ProgramParts → List AnswerLine → List ℕ
+answer_and_sentences text l again lines = flat_map (explained_line text l (answer_stops again lines) lines) lines
+
+-- answers one after the other. A run may be long, so where tasks stand is said of the first answers only
+abbrev pub answers_run_again : ℕ
+answers_run_again = 16
+
+abbrev pub answers_and_sentences : List ℕ → Located → List (List AnswerLine) → List ℕ
+answers_and_sentences text l answers =
+    flat_map (answer_and_sentences text l (Some l.program)) (take answers_run_again answers)
+    ++ flat_map (answer_and_sentences text l None) (drop answers_run_again answers)
 
 -- the answers that some lines are, one after the other
 abbrev pub lines_and_sentences : List ℕ → Located → List AnswerLine → List ℕ
-lines_and_sentences text l lines = flat_map (answer_and_sentences text l) (answers_in lines)
+lines_and_sentences text l lines = answers_and_sentences text l (answers_in lines)
 
 -- ---- which lines an answer may have
 

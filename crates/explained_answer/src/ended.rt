@@ -46,7 +46,7 @@ fn last_tasks(alloc: Global, lines: &[ReadLine<'_>]) -> Result<Vec<Option<TaskEn
     Ok(last)
 }
 
-fn is_waiting(end: EndShown) -> bool
+pub(crate) fn is_waiting(end: EndShown) -> bool
     ensures { result ≡ is_waiting end }
 {
     matches!(end, EndShown::Waits { .. })

@@ -39,6 +39,8 @@ fn explained_run(
     located: &Located,
     answer: &[u8],
 ) -> Result<Explained, Memory>
+    requires located { IsLocated text.now located.now }
+    requires checked { IsChecked located.now.program }
     ensures { IfOk result (AreAllExplained text.now located.now answer.now) }
 {
     match read_answer(alloc, located, answer)? {

@@ -17,6 +17,7 @@ mod numbers;
 mod parsing;
 mod programs;
 mod refusals;
+mod run_again;
 mod several;
 mod taken;
 mod tasks;
@@ -39,6 +40,7 @@ pub use line_laws::{
 };
 pub use line_parsing::read_line;
 pub use listing::take_listing;
+pub use run_again::a_named_instruction_is_the_next_of_its_task;
 pub use taken::Taken;
 pub use trace::take_trace;
 pub use trace_laws::a_trace_of_the_text_is_taken;

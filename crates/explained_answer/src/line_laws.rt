@@ -1,5 +1,5 @@
 //! Theorems of the lines of an answer. A theorem is a function without effect; its contract states the theorem.
-ghost use Rattle.std.specs.Prelude.{◌≡◌, ◌++◌, ℕ, List, flat_map};
+ghost use Rattle.std.specs.Prelude.{◌≡◌, ◌≤◌, ◌++◌, ℕ, List, length, flat_map};
 ghost use Rattle.std.specs.List.{All};
 ghost use Rattle.dn_base.specs.declared.ids.Grant.{Grant as GrantOf};
 ghost use Rattle.grant_log.specs.declared.counts.Counts.{Counts as CountsOf};
@@ -12,7 +12,7 @@ ghost use Rattle.run_report.specs.Summary.{summary_of, checked_of};
 ghost use Rattle.explained_answer.specs.declared.line.AnswerLine.{AnswerLine as LineOf};
 ghost use Rattle.explained_answer.specs.Answers.{ending_lines, run_lines, summary_lines, size_line};
 ghost use Rattle.explained_answer.specs.AnswerLines.{IsAnswerLine, answer_line};
-ghost use Rattle.explained_answer.specs.Lines.{answer_and_sentences, lines_and_sentences};
+ghost use Rattle.explained_answer.specs.Lines.{answers_run_again, answers_and_sentences, lines_and_sentences};
 ghost use Rattle.explained_answer.specs.Several.{IsOneAnswer};
 
 /// Bytes begin with at most one line, and what follows it is determined.
@@ -20,10 +20,13 @@ pub fn a_line_is_read_in_one_way()
     ensures { (x y : LineOf) (r s : List ℕ) → IsAnswerLine x → IsAnswerLine y → answer_line x ++ r ≡ answer_line y ++ s → (x ≡ y) × (r ≡ s) }
 {}
 
-/// Answers of runs that stand one after the other are explained one after the other, each by its own grants.
+/// Answers of runs that stand one after the other are explained one after the other, each by its own lines. Up to 16 answers, each is
+/// explained as if it stood alone. Of those behind the first 16 all is said but where tasks stand.
 pub fn answers_are_explained_one_after_the_other()
-    ensures { (text : List ℕ) (l : LocatedOf) (answers : List (List LineOf)) → All IsOneAnswer answers
-        → lines_and_sentences text l (flat_map (λ (answer : List LineOf). answer) answers) ≡ flat_map (answer_and_sentences text l) answers }
+    ensures each { (text : List ℕ) (l : LocatedOf) (answers : List (List LineOf)) → All IsOneAnswer answers
+        → lines_and_sentences text l (flat_map (λ (answer : List LineOf). answer) answers) ≡ answers_and_sentences text l answers }
+    ensures alone { (text : List ℕ) (l : LocatedOf) (answers : List (List LineOf)) → All IsOneAnswer answers → length answers ≤ answers_run_again
+        → lines_and_sentences text l (flat_map (λ (answer : List LineOf). answer) answers) ≡ flat_map (lines_and_sentences text l) answers }
 {}
 
 /// The printed ending of a run, its grants and counts, its summary, and the size of a checked program consist of these lines.

@@ -7,7 +7,7 @@ ghost use Rattle.explained_answer.specs.AnswerLines.{HasGrantNumbers, IsAnswerLi
 use crate::line::AnswerLine;
 use crate::long::ticks;
 use crate::numbers::three_numbers;
-use crate::programs::{fixed, sum, unbounded};
+use crate::programs::{fixed_line, sum, unbounded_line};
 use crate::tasks::task;
 use crate::timing::link;
 use crate::words::{count, outcome, word};
@@ -42,7 +42,7 @@ fn read_other(bytes: &[u8]) -> Option<(AnswerLine, &[u8])>
             rest,
         ));
     }
-    if let Some((phase, core, pc, rest)) = unbounded(bytes) {
+    if let Some((phase, core, pc, rest)) = unbounded_line(bytes) {
         return Some((AnswerLine::Unbounded { phase, core, pc }, rest));
     }
     if let Some((value, rest)) = sum(bytes) {
@@ -54,7 +54,7 @@ fn read_other(bytes: &[u8]) -> Option<(AnswerLine, &[u8])>
     if let Some((link, rest)) = link(bytes) {
         return Some((AnswerLine::Link(link), rest));
     }
-    let (line, rest) = fixed(bytes)?;
+    let (line, rest) = fixed_line(bytes)?;
     Some((AnswerLine::Fixed(line), rest))
 }
 

@@ -121,8 +121,8 @@ fn push_unproven(
     }
 }
 
-/// Adds what is said after a line of an answer. `holder` is the core that holds the lock for which the line's task waits,
-/// and `named` the cause of an outcome, or the task of this core, if it ended.
+/// Adds what is said after a line of an answer. `pc` is the address of the next instruction of the line's task, `holder` the core
+/// that holds the lock for which this task waits, and `named` the cause of an outcome, or the task of this core, if it ended.
 fn push_sentences<'a>(
     out: &mut Vec<u8>,
     text: &[u8],
@@ -130,29 +130,27 @@ fn push_sentences<'a>(
     effects: &ToldEffects<'a>,
     located: &'a Located,
     line: AnswerLine,
+    pc: Option<u32>,
     holder: Option<u32>,
     named: Option<TaskEnd>,
 ) -> Result<(), Memory>
     requires spans { AreSpans text.now spans.now }
     requires effects { AreTold text.now effects.now }
-    ensures { OnOk result (out.new.items ≡ out.old.items ++ sentences_behind text.now located.now holder named line) }
+    ensures { OnOk result (out.new.items ≡ out.old.items ++ sentences_behind text.now located.now pc holder named line) }
 {
     match line {
         AnswerLine::Outcome(outcome) => push_outcome(out, &located.places, outcome, named),
         AnswerLine::Task(task) => {
-            push_ending(out, text, spans, effects, located, task, holder)?;
+            push_ending(out, text, spans, effects, located, task, pc, holder)?;
             push_ended_holder(out, &located.places, named)
         }
         AnswerLine::Word { word, value: _ } => push_named_word(out, located, word),
         AnswerLine::Grant(grant) => push_named_lock(out, located, grant.lock.0),
-        AnswerLine::Unbounded { phase, core, pc } => push_unproven(
-            out,
-            text,
-            spans,
-            &located.places,
-            (phase, core),
-            pc,
-        ),
+        AnswerLine::Unbounded {
+            phase,
+            core,
+            pc: at,
+        } => push_unproven(out, text, spans, &located.places, (phase, core), at),
         AnswerLine::Count { .. }
         | AnswerLine::Sum { .. }
         | AnswerLine::Time { .. }
@@ -171,14 +169,15 @@ pub(crate) fn push_explained<'a>(
     located: &'a Located,
     line: AnswerLine,
     written: &[u8],
+    pc: Option<u32>,
     holder: Option<u32>,
     named: Option<TaskEnd>,
 ) -> Result<(), Memory>
     requires spans { AreSpans text.now spans.now }
     requires effects { AreTold text.now effects.now }
     requires written { written.now ≡ answer_line line }
-    ensures { OnOk result (out.new.items ≡ out.old.items ++ (answer_line line ++ sentences_behind text.now located.now holder named line)) }
+    ensures { OnOk result (out.new.items ≡ out.old.items ++ (answer_line line ++ sentences_behind text.now located.now pc holder named line)) }
 {
     push(out, written)?;
-    push_sentences(out, text, spans, effects, located, line, holder, named)
+    push_sentences(out, text, spans, effects, located, line, pc, holder, named)
 }

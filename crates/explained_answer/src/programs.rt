@@ -30,7 +30,7 @@ pub(crate) fn sum(bytes: &[u8]) -> Option<(u32, &[u8])>
 }
 
 /// The phase, core and pc that the prover names at the start of some bytes, and what follows them.
-pub(crate) fn unbounded(bytes: &[u8]) -> Option<(u32, u32, u32, &[u8])>
+pub(crate) fn unbounded_line(bytes: &[u8]) -> Option<(u32, u32, u32, &[u8])>
     ensures some { IfSome result (λ f. StandUnbounded bytes.now f.0 f.1 f.2 f.3.now) }
     ensures none { IfNone result ((p c a : ℕ) (rest : List ℕ) → StandUnbounded bytes.now p c a rest → ⊥) }
 {
@@ -41,7 +41,7 @@ pub(crate) fn unbounded(bytes: &[u8]) -> Option<(u32, u32, u32, &[u8])>
 
 /// The line without a number that stands at the start of some bytes, and what follows it.
 #[tactic(auto, unfolding(run_report::specs::Refusal::refusal_of))]
-pub(crate) fn fixed(bytes: &[u8]) -> Option<(FixedLine, &[u8])>
+pub(crate) fn fixed_line(bytes: &[u8]) -> Option<(FixedLine, &[u8])>
     ensures some { IfSome result (λ f. bytes.now ≡ fixed_line f.0 ++ f.1.now) }
     ensures none { IfNone result ((l : FixedLineOf) (rest : List ℕ) → bytes.now ≢ fixed_line l ++ rest) }
 {

@@ -12,3 +12,5 @@ pub mod TableClaims
 pub mod ToldLemmas
 pub mod WordsLemmas
 pub mod PartLemmas
+pub mod StopLemmas
+pub mod LoopLemmas

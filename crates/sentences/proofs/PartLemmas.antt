@@ -1,5 +1,5 @@
 -- The part of a line that is marked lies in the line.
-use Rattle.std.proofs.Common.{◌≡◌, ◌<◌, ◌≤◌, ℕ, zero, suc, ◌+◌, Bool, true, false, not, ◌&&◌, cond, nat_lt, nat_le, nat_eq, List, [], ◌∷◌, length, take, drop, get_or, find, Option, Some, None, option_map, is_some, slice_get, Result, Ok, Err, refl, sym, ap, ◌∙◌, subst, arith}
+use Rattle.std.proofs.Common.{◌≡◌, ◌<◌, ◌≤◌, ℕ, suc, ◌+◌, Bool, true, false, not, ◌&&◌, cond, nat_lt, nat_le, nat_eq, List, [], ◌∷◌, length, take, drop, get_or, find, Option, Some, None, option_map, is_some, slice_get, Result, Ok, Err, refl, sym, ap, ◌∙◌, subst, arith}
 use Rattle.std.specs.List.{All, AllZip, list_all, filter_map, prefix_len, position_or_len}
 use Rattle.std.specs.Option.{option_or}
 use Rattle.std.proofs.lemmas.Bool.{false≢true, cond_both, and_parts}
@@ -24,14 +24,12 @@ use Rattle.rv_assembler.specs.declared.fault.SourceFault.{SourceFault}
 use Rattle.rv_assembler.specs.declared.fault.SourceFault as fault
 use Rattle.rv_assembler.specs.declared.kind.Mnemonic.{Mnemonic}
 use Rattle.rv_assembler.specs.declared.kind.Mnemonic as mnemonic
-use Rattle.rv_assembler.specs.declared.kind.Directive.{Directive}
 use Rattle.rv_assembler.specs.declared.kind.Directive as directive
 use Rattle.rv_assembler.specs.declared.kind.Kind.{Kind}
 use Rattle.rv_assembler.specs.declared.kind.Kind as kind
 use Rattle.rv_assembler.specs.declared.kind.Piece.{Piece}
 use Rattle.rv_assembler.specs.declared.statement.Code.{Code}
 use Rattle.rv_assembler.specs.declared.statement.Code as code
-use Rattle.rv_assembler.specs.declared.statement.Family.{Family}
 use Rattle.rv_assembler.specs.declared.statement.Statement.{Statement}
 use Rattle.rv_assembler.specs.declared.statement.Statement as statement
 use Rattle.rv_assembler.specs.declared.parsing.Reading.{Reading}
@@ -41,7 +39,7 @@ use Rattle.rv_assembler.specs.Fault.{are_cores}
 use Rattle.rv_assembler.specs.Operand.{bytes_of, token_at}
 use Rattle.rv_assembler.specs.Shape as shape
 use Rattle.rv_assembler.specs.Shape.{Shape, memory_rows, operation_rows, short_rows, directive_rows, later_rows, is_colon, is_comma, is_plain, piece_fits, fits, shape_has_word, is_row, kind_in_rows, knows_word, kind_for}
-use Rattle.rv_assembler.specs.Reading.{code_for, directive_for, statement_for, statement_of, statement_in, said, labelled, read_tokens, read_line, reading_of}
+use Rattle.rv_assembler.specs.Reading.{code_for, statement_for, statement_of, statement_in, said, labelled, read_tokens, read_line, reading_of}
 use Rattle.rv_isa.specs.Table.{is_shift}
 use Rattle.sentences.specs.declared.examples.Form.{Form}
 use Rattle.sentences.specs.declared.findings.Cause.{Cause}
@@ -59,7 +57,7 @@ use Rattle.sentences.specs.Known.{known_in}
 use Rattle.sentences.specs.Marks.{part_by, bad_place_from, is_high, IsPartOf}
 use Rattle.sentences.specs.Operands.{before_comma, behind_comma, part_over, is_mended_by, wrong_part, wrong_operand, wrong_among, found_sort, sorts_of}
 use Rattle.sentences.specs.Standing.{standing_in}
-use Rattle.sentences.specs.Findings.{version_for_line, said_alone, finding_at, behind_label, at_word, is_number_token, at_number, is_number_behind, interval_part, interval_from, at_interval, at_byte, at_part, code_out_of_range, tasks_out_of_range, out_of_range_at, declared_finding, is_before, declared_token, doubled_token, known_token, declared_at_token, doubled_at, is_known_region, want_of_code, want_of_effect, want_of, unknown_finding, unknown_if_any, unknown_at, standing_finding, misplaced_at, excess, at_word_if, limit_at, operand_or_word, operands_finding, word_or_operands, at_first, dotted_label, label_or_statement, operand_at, finding_by, finding_on, finding_in, finding_of}
+use Rattle.sentences.specs.Findings.{version_for_line, said_alone, finding_at, behind_label, at_word, is_number_token, at_number, is_number_behind, interval_part, interval_from, at_interval, at_byte, at_part, code_out_of_range, out_of_range_at, declared_finding, is_before, declared_token, doubled_token, known_token, declared_at_token, doubled_at, is_known_region, want_of_code, want_of_effect, want_of, unknown_finding, unknown_if_any, unknown_at, standing_finding, misplaced_at, excess, at_word_if, limit_at, operand_or_word, operands_finding, at_first, dotted_label, label_or_statement, operand_at, finding_by, finding_on, finding_in, finding_of}
 
 some-is : {X : Type 0} (a b : X) → Some a ≡ Some b → a ≡ b
 some-is a b e = same_Some a b e

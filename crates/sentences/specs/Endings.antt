@@ -17,6 +17,8 @@ use Rattle.text_places.specs.Words.{is_task_of}
 use Rattle.text_places.specs.Texts.{address_text, code_text, lock_text, quoted_line}
 use Rattle.sentences.specs.declared.uses.Access.{Access}
 use Rattle.sentences.specs.declared.uses.Access.TheVariants.{Load, Store}
+use Rattle.sentences.specs.declared.loops.Loop.{Loop}
+use Rattle.sentences.specs.Loops.{loop_around}
 use Rattle.sentences.specs.Outside.{outside_sentences}
 use Rattle.sentences.specs.Uses.{instruction_access}
 
@@ -142,12 +144,71 @@ fuel_remedy retired =
     if nat_lt retired 32768 then codes " If it only takes long, the option `--fuel` gives it more."
     else codes " It can't be given more instructions than that: if it only takes long, have several tasks share its work."
 
-unfoldable pub out_of_fuel : List ℕ
-out_of_fuel = codes " has retired as many instructions as it may, and hasn't ended.\n  See whether its loop ends."
+-- ---- where a task stands that hasn't ended
 
--- a task may retire 32,768 instructions at most
-unfoldable pub fuel_text : ℕ → List ℕ
-fuel_text retired = out_of_fuel ++ fuel_remedy retired ++ newline
+unfoldable pub its_next : List ℕ
+its_next = codes "  Its next instruction is at "
+
+-- the line of the instruction that is next
+unfoldable pub goes_on_at : List ℕ → CodePlace → List ℕ
+goes_on_at text p = its_next ++ code_text p ++ codes ":" ++ newline ++ indent ++ quoted_line text p.line
+
+unfoldable pub it_waits_at : List ℕ
+it_waits_at = codes "  It waits at "
+
+-- the line of the ECALL by which it waits
+unfoldable pub waits_at : List ℕ → CodePlace → List ℕ
+waits_at text p = it_waits_at ++ code_text p ++ codes ":" ++ newline ++ indent ++ quoted_line text p.line
+
+unfoldable pub loop_on_line : ℕ → List ℕ
+loop_on_line line = codes "  It is in the loop on line " ++ decimal line ++ codes "." ++ newline
+
+unfoldable pub in_loop_from : List ℕ
+in_loop_from = codes "  It is in the loop from line "
+
+unfoldable pub loop_from_line : ℕ → ℕ → List ℕ
+loop_from_line first last = in_loop_from ++ decimal first ++ codes " to line " ++ decimal last ++ codes "." ++ newline
+
+abbrev pub loop_text : ℕ → ℕ → List ℕ
+loop_text first last = if first == last then loop_on_line first else loop_from_line first last
+
+-- the lines of a loop's head, and of the instruction that goes back to it
+abbrev pub loop_between : Option CodePlace → Option CodePlace → List ℕ
+loop_between (Some head) (Some back) = loop_text head.line back.line
+loop_between (Some head) None = []
+loop_between None back = []
+
+abbrev pub loop_lines : Places → Option Loop → List ℕ
+loop_lines places None = []
+loop_lines places (Some l) = loop_between (code_place_at places l.head) (code_place_at places l.back)
+
+abbrev pub next_at : List ℕ → Option CodePlace → List ℕ
+next_at text None = []
+next_at text (Some p) = goes_on_at text p
+
+-- the line of the next instruction, which has this address, and of the loop that it is in
+abbrev pub next_text : List ℕ → Located → Option ℕ → List ℕ
+next_text text l None = []
+next_text text l (Some pc) = next_at text (code_place_at l.places pc) ++ loop_lines l.places (loop_around l.program.code pc)
+
+abbrev pub wait_line : List ℕ → Option CodePlace → List ℕ
+wait_line text None = []
+wait_line text (Some p) = waits_at text p
+
+-- the line of the ECALL by which it waits, which has this address
+abbrev pub wait_place : List ℕ → Located → Option ℕ → List ℕ
+wait_place text l None = []
+wait_place text l (Some pc) = wait_line text (code_place_at l.places pc)
+
+unfoldable pub out_of_fuel : List ℕ
+out_of_fuel = codes " has retired as many instructions as it may, and hasn't ended." ++ newline
+
+unfoldable pub see_loop : List ℕ
+see_loop = codes "  See whether its loop ends."
+
+-- a task may retire 32,768 instructions at most. Its next instruction has this address, if that is known
+unfoldable pub fuel_text : List ℕ → Located → Option ℕ → ℕ → List ℕ
+fuel_text text l pc retired = out_of_fuel ++ next_text text l pc ++ see_loop ++ fuel_remedy retired ++ newline
 
 unfoldable pub not_given_up : List ℕ
 not_given_up = codes ", which isn't given up." ++ newline
@@ -169,15 +230,16 @@ wait_remedy = indent ++ codes "Have each task release what it acquires, and all 
 unfoldable pub wait_text : ProgramParts → ℕ → List ℕ
 wait_text p lock = codes " waits for " ++ lock_text p.locks lock ++ not_given_up
 
--- the sentences on how a task stands; `holder` is the core whose task holds the lock that it waits for, if that is known
-abbrev pub end_sentences : List ℕ → Located → Option ℕ → ℕ → ℕ → ℕ → EndShown → List ℕ
-end_sentences text l holder phase core retired shown.TheVariants.Finished = []
-end_sentences text l holder phase core retired shown.TheVariants.Fuel = task_text l.places phase core ++ fuel_text retired
-end_sentences text l holder phase core retired (shown.TheVariants.Trap k pc value) =
-    task_text l.places phase core ++ line_at text (code_place_at l.places pc)
-    ++ trap_sentences text l phase core k (instruction_access l.program pc) value
-end_sentences text l holder phase core retired (shown.TheVariants.Waits lock) =
-    task_text l.places phase core ++ wait_text l.program lock.0 ++ holder_text l.places phase holder ++ wait_remedy
+-- the sentences on how a task stands; `pc` is the address of the next instruction of a task that hasn't ended, if that is known, and
+-- `holder` the core whose task holds the lock that it waits for, if that is known
+abbrev pub end_sentences : List ℕ → Located → Option ℕ → Option ℕ → ℕ → ℕ → ℕ → EndShown → List ℕ
+end_sentences text l pc holder phase core retired shown.TheVariants.Finished = []
+end_sentences text l pc holder phase core retired shown.TheVariants.Fuel = task_text l.places phase core ++ fuel_text text l pc retired
+end_sentences text l pc holder phase core retired (shown.TheVariants.Trap k at value) =
+    task_text l.places phase core ++ line_at text (code_place_at l.places at)
+    ++ trap_sentences text l phase core k (instruction_access l.program at) value
+end_sentences text l pc holder phase core retired (shown.TheVariants.Waits lock) =
+    task_text l.places phase core ++ wait_text l.program lock.0 ++ wait_place text l pc ++ holder_text l.places phase holder ++ wait_remedy
 
-abbrev pub ending_text : List ℕ → Located → Option ℕ → TaskEnd → List ℕ
-ending_text text l holder t = end_sentences text l holder t.phase.0 t.core.0 t.retired t.end
+abbrev pub ending_text : List ℕ → Located → Option ℕ → Option ℕ → TaskEnd → List ℕ
+ending_text text l pc holder t = end_sentences text l pc holder t.phase.0 t.core.0 t.retired t.end

@@ -22,3 +22,5 @@ pub mod Standing
 pub mod TableClaims
 pub mod Told
 pub mod Uses
+pub mod Stops
+pub mod Loops

@@ -1,29 +1,22 @@
 //! Sentences on the three kinds of conflict.
 ghost use Rattle.std.specs.Prelude.{◌≡◌, ◌++◌, OnOk};
-ghost use Rattle.sentences.specs.Conflicts.{declaring_line, declaring_text, core_text, guarded_task_text, phase_text, stores_plainly, and_another, uses_it_too, apart_remedy, plain_text, for_task, guards_it, guard_text, uses_it_plainly, guard_remedy, guarded_plain_text, one_lock_remedy, two_locks_text, contenders_text, conflict_remedy, conflict_sentences};
+ghost use Rattle.sentences.specs.Conflicts.{declaring_text, core_text, guarded_task_text, phase_text, plain_text, guard_text, uses_it_plainly, guarded_plain_text, two_locks_text, contenders_text, conflict_remedy, conflict_sentences};
 
 use crate::claiming::push_contention;
 use crate::guards::guarded_in;
 use dn_base::Memory;
 use effect_checker::CheckFault;
-use text_pieces::{push, push_decimal};
+use text_pieces::Piece::{Bytes, Number};
+use text_pieces::{push, push_pieces};
 use text_places::{Located, Places, TaskPlace, push_lock, push_word};
 
-#[tactic(auto, unfolding(crate::specs::Conflicts::declaring_line))]
-fn push_declaring_line(out: &mut Vec<u8>, place: TaskPlace) -> Result<(), Memory>
-    ensures { OnOk result (out.new.items ≡ out.old.items ++ declaring_line place) }
-{
-    push(out, b" (line ")?;
-    push_decimal(out, place.line)?;
-    push(out, b")")
-}
-
 /// Adds the line that declares a task, if there is one.
+#[tactic(auto, unfolding(crate::specs::Conflicts::declaring_line))]
 fn push_declaring(out: &mut Vec<u8>, place: Option<TaskPlace>) -> Result<(), Memory>
     ensures { OnOk result (out.new.items ≡ out.old.items ++ declaring_text place) }
 {
     match place {
-        Some(place) => push_declaring_line(out, place),
+        Some(place) => push_pieces(out, &[Bytes(b" (line "), Number(place.line), Bytes(b")")]),
         None => Ok(()),
     }
 }
@@ -38,9 +31,7 @@ pub(crate) fn push_core(
 ) -> Result<(), Memory>
     ensures { OnOk result (out.new.items ≡ out.old.items ++ core_text places.now phase core) }
 {
-    push(out, b"core ")?;
-    push_decimal(out, core)?;
-    push(out, b"'s task")?;
+    push_pieces(out, &[Bytes(b"core "), Number(core), Bytes(b"'s task")])?;
     push_declaring(out, places.task(phase as usize, core))
 }
 
@@ -63,43 +54,10 @@ fn push_guarded_task(
 fn push_phase(out: &mut Vec<u8>, phase: u32) -> Result<(), Memory>
     ensures { OnOk result (out.new.items ≡ out.old.items ++ phase_text phase) }
 {
-    push(out, b"  In phase ")?;
-    push_decimal(out, phase)?;
-    push(out, b", ")
+    push_pieces(out, &[Bytes(b"  In phase "), Number(phase), Bytes(b", ")])
 }
 
-#[tactic(auto, unfolding(crate::specs::Conflicts::stores_plainly))]
-fn push_stores_plainly(out: &mut Vec<u8>) -> Result<(), Memory>
-    ensures { OnOk result (out.new.items ≡ out.old.items ++ stores_plainly) }
-{
-    push(out, b" may store to ")
-}
-
-#[tactic(auto, unfolding(crate::specs::Conflicts::and_another))]
-fn push_and_another(out: &mut Vec<u8>) -> Result<(), Memory>
-    ensures { OnOk result (out.new.items ≡ out.old.items ++ and_another) }
-{
-    push(out, b" without a lock, and ")
-}
-
-#[tactic(auto, unfolding(crate::specs::Conflicts::uses_it_too))]
-fn push_uses_it_too(out: &mut Vec<u8>) -> Result<(), Memory>
-    ensures { OnOk result (out.new.items ≡ out.old.items ++ uses_it_too) }
-{
-    push(out, b" may load it or store to it without one.\n")
-}
-
-#[tactic(auto, unfolding(crate::specs::Conflicts::apart_remedy))]
-fn push_apart_remedy(out: &mut Vec<u8>) -> Result<(), Memory>
-    ensures { OnOk result (out.new.items ≡ out.old.items ++ apart_remedy) }
-{
-    push(
-        out,
-        b"  Give the tasks words or phases of their own, or have one lock guard the word for both by `.greads` and `.gwrites`.\n",
-    )
-}
-
-#[tactic(auto, unfolding(crate::specs::Conflicts::plain_text))]
+#[tactic(auto, unfolding(crate::specs::Conflicts::plain_text, crate::specs::Conflicts::stores_plainly, crate::specs::Conflicts::and_another, crate::specs::Conflicts::uses_it_too))]
 fn push_plain(
     out: &mut Vec<u8>,
     located: &Located,
@@ -111,29 +69,15 @@ fn push_plain(
 {
     push_phase(out, phase)?;
     push_core(out, &located.places, phase, cores.0)?;
-    push_stores_plainly(out)?;
+    push(out, b" may store to ")?;
     push_word(out, &located.program, word)?;
-    push_and_another(out)?;
+    push(out, b" without a lock, and ")?;
     push_core(out, &located.places, phase, cores.1)?;
-    push_uses_it_too(out)
-}
-
-#[tactic(auto, unfolding(crate::specs::Conflicts::guards_it))]
-fn push_guards_it(out: &mut Vec<u8>) -> Result<(), Memory>
-    ensures { OnOk result (out.new.items ≡ out.old.items ++ guards_it) }
-{
-    push(out, b" guards ")
-}
-
-#[tactic(auto, unfolding(crate::specs::Conflicts::for_task))]
-fn push_for_task(out: &mut Vec<u8>) -> Result<(), Memory>
-    ensures { OnOk result (out.new.items ≡ out.old.items ++ for_task) }
-{
-    push(out, b" for ")
+    push(out, b" may load it or store to it without one.\n")
 }
 
 /// Adds that a lock guards a word, and for which task.
-#[tactic(auto, unfolding(crate::specs::Conflicts::guard_text))]
+#[tactic(auto, unfolding(crate::specs::Conflicts::guard_text, crate::specs::Conflicts::guards_it, crate::specs::Conflicts::for_task))]
 fn push_guard(
     out: &mut Vec<u8>,
     located: &Located,
@@ -144,9 +88,9 @@ fn push_guard(
     ensures { OnOk result (out.new.items ≡ out.old.items ++ guard_text located.now phase lock word) }
 {
     push_lock(out, located.program.locks.as_slice(), lock as usize)?;
-    push_guards_it(out)?;
+    push(out, b" guards ")?;
     push_word(out, &located.program, word)?;
-    push_for_task(out)?;
+    push(out, b" for ")?;
     let core = guarded_in(&located.program, phase, lock, word);
     push_guarded_task(out, &located.places, phase, core)
 }
@@ -156,16 +100,6 @@ fn push_uses_it_plainly(out: &mut Vec<u8>) -> Result<(), Memory>
     ensures { OnOk result (out.new.items ≡ out.old.items ++ uses_it_plainly) }
 {
     push(out, b" may load it or store to it without a lock.\n")
-}
-
-#[tactic(auto, unfolding(crate::specs::Conflicts::guard_remedy))]
-fn push_guard_remedy(out: &mut Vec<u8>) -> Result<(), Memory>
-    ensures { OnOk result (out.new.items ≡ out.old.items ++ guard_remedy) }
-{
-    push(
-        out,
-        b"  Have the lock guard the word for that task too, and take it out of the task's `.reads` and `.writes`.\n",
-    )
 }
 
 #[tactic(auto, unfolding(crate::specs::Conflicts::guarded_plain_text))]
@@ -184,16 +118,6 @@ fn push_guarded_plain(
     push(out, b", and ")?;
     push_core(out, &located.places, phase, core)?;
     push_uses_it_plainly(out)
-}
-
-#[tactic(auto, unfolding(crate::specs::Conflicts::one_lock_remedy))]
-fn push_one_lock_remedy(out: &mut Vec<u8>) -> Result<(), Memory>
-    ensures { OnOk result (out.new.items ≡ out.old.items ++ one_lock_remedy) }
-{
-    push(
-        out,
-        b"  Have one lock guard the word for all tasks of the phase.\n",
-    )
 }
 
 #[tactic(auto, unfolding(crate::specs::Conflicts::two_locks_text))]
@@ -239,14 +163,18 @@ fn push_contenders(out: &mut Vec<u8>, located: &Located, conflict: CheckFault) -
     }
 }
 
-/// Adds how to fix a conflict.
-fn push_remedy(out: &mut Vec<u8>, conflict: CheckFault) -> Result<(), Memory>
-    ensures { OnOk result (out.new.items ≡ out.old.items ++ conflict_remedy conflict) }
+/// How to fix a conflict.
+#[tactic(auto, unfolding(crate::specs::Conflicts::apart_remedy, crate::specs::Conflicts::guard_remedy, crate::specs::Conflicts::one_lock_remedy))]
+fn remedy_of(conflict: CheckFault) -> &'static [u8]
+    ensures { result.now ≡ conflict_remedy conflict }
 {
     match conflict {
-        CheckFault::PlainConflict { .. } => push_apart_remedy(out),
-        CheckFault::GuardedPlain { .. } => push_guard_remedy(out),
-        CheckFault::TwoLocks { .. } => push_one_lock_remedy(out),
+        CheckFault::PlainConflict { .. } =>
+            b"  Give the tasks words or phases of their own, or have one lock guard the word for both by `.greads` and `.gwrites`.\n",
+        CheckFault::GuardedPlain { .. } =>
+            b"  Have the lock guard the word for that task too, and take it out of the task's `.reads` and `.writes`.\n",
+        CheckFault::TwoLocks { .. } =>
+            b"  Have one lock guard the word for all tasks of the phase.\n",
     }
 }
 
@@ -265,5 +193,5 @@ pub fn push_conflict(
 {
     push_contenders(out, located, conflict)?;
     push_contention(out, text, located, conflict)?;
-    push_remedy(out, conflict)
+    push(out, remedy_of(conflict))
 }

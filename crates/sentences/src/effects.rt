@@ -301,7 +301,7 @@ fn told_of_region<'a>(
     ensures { (text : List ℕ) → AreTold text effects.now → result ≡ told_of (told_of_region text program.now task region) }
 {
     match program.regions.get(region) {
-        Some(found) => effects.told(task.line, found.name.bytes()),
+        Some(found) => effects.effects_of_family(task.line, found.name.bytes()),
         None => NOTHING,
     }
 }

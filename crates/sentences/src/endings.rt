@@ -2,8 +2,9 @@
 ghost use Rattle.std.specs.Prelude.{◌≡◌, ◌++◌, OnOk};
 ghost use Rattle.sentences.specs.Quotes.{AreSpans};
 ghost use Rattle.sentences.specs.Told.{AreTold};
-ghost use Rattle.sentences.specs.Endings.{which_line, declares_word, the_task, declared_by_line, declared_text, task_text, code_place_at, stands_at, line_at, fuel_remedy, out_of_fuel, fuel_text, not_given_up, holds_it, holder_untold, holder_text, wait_remedy, wait_text, ending_text};
+ghost use Rattle.sentences.specs.Endings.{see_loop, which_line, declares_word, the_task, declared_by_line, declared_text, task_text, code_place_at, stands_at, line_at, fuel_remedy, out_of_fuel, fuel_text, not_given_up, holds_it, holder_untold, holder_text, wait_remedy, wait_text, ending_text};
 
+use crate::going_on::{push_next, push_wait_place};
 use crate::quotes::push_line;
 use crate::told::ToldEffects;
 use crate::traps::push_trap;
@@ -129,15 +130,33 @@ fn push_out_of_fuel(out: &mut Vec<u8>) -> Result<(), Memory>
 {
     push(
         out,
-        b" has retired as many instructions as it may, and hasn't ended.\n  See whether its loop ends.",
+        b" has retired as many instructions as it may, and hasn't ended.\n",
     )
 }
 
+#[tactic(auto, unfolding(crate::specs::Endings::see_loop))]
+fn push_see_loop(out: &mut Vec<u8>) -> Result<(), Memory>
+    ensures { OnOk result (out.new.items ≡ out.old.items ++ see_loop) }
+{
+    push(out, b"  See whether its loop ends.")
+}
+
+/// Adds what is said of a task that is out of fuel. Its next instruction is at the address `pc`, if that is known.
 #[tactic(auto, unfolding(crate::specs::Endings::fuel_text))]
-fn push_fuel(out: &mut Vec<u8>, retired: u32) -> Result<(), Memory>
-    ensures { OnOk result (out.new.items ≡ out.old.items ++ fuel_text retired) }
+fn push_fuel(
+    out: &mut Vec<u8>,
+    text: &[u8],
+    spans: &[Span],
+    located: &Located,
+    pc: Option<u32>,
+    retired: u32,
+) -> Result<(), Memory>
+    requires { AreSpans text.now spans.now }
+    ensures { OnOk result (out.new.items ≡ out.old.items ++ fuel_text text.now located.now pc retired) }
 {
     push_out_of_fuel(out)?;
+    push_next(out, text, spans, located, pc)?;
+    push_see_loop(out)?;
     push(out, fuel_remedy(retired))?;
     push(out, b"\n")
 }
@@ -205,7 +224,9 @@ fn push_wait_remedy(out: &mut Vec<u8>) -> Result<(), Memory>
 
 /// Appends the sentences on how a task of the text's program stands at the end of a run; nothing if it has finished.
 ///
-/// `spans` are the places of the text's lines, and `effects` what its tasks declare. `holder` is the core whose task holds the lock that this task waits for; None if that isn't known, or the task doesn't wait.
+/// `spans` are the places of the text's lines, and `effects` what its tasks declare. `pc` is the address of the next instruction of
+/// a task that hasn't ended, if that is known. `holder` is the core whose task holds the lock that this task waits for; None if
+/// that isn't known, or the task doesn't wait.
 ///
 /// # Errors
 /// `Memory` if there is no room; the text may have a part of the sentences then.
@@ -216,27 +237,33 @@ pub fn push_ending<'a>(
     effects: &ToldEffects<'a>,
     located: &'a Located,
     task: TaskEnd,
+    pc: Option<u32>,
     holder: Option<u32>,
 ) -> Result<(), Memory>
     requires spans { AreSpans text.now spans.now }
     requires effects { AreTold text.now effects.now }
-    ensures { OnOk result (out.new.items ≡ out.old.items ++ ending_text text.now located.now holder task) }
+    ensures { OnOk result (out.new.items ≡ out.old.items ++ ending_text text.now located.now pc holder task) }
 {
     let (phase, core) = (task.phase.0, task.core.0);
     match task.end {
         EndShown::Finished => Ok(()),
         EndShown::Fuel => {
             push_task(out, &located.places, phase, core)?;
-            push_fuel(out, task.retired)
+            push_fuel(out, text, spans, located, pc, task.retired)
         }
-        EndShown::Trap { kind, pc, value } => {
+        EndShown::Trap {
+            kind,
+            pc: at,
+            value,
+        } => {
             push_task(out, &located.places, phase, core)?;
-            push_end(out, text, spans, code_place_at(&located.places, pc))?;
-            push_trap(out, text, effects, located, (phase, core), kind, pc, value)
+            push_end(out, text, spans, code_place_at(&located.places, at))?;
+            push_trap(out, text, effects, located, (phase, core), kind, at, value)
         }
         EndShown::Waits { lock } => {
             push_task(out, &located.places, phase, core)?;
             push_wait(out, &located.program, lock.0)?;
+            push_wait_place(out, text, spans, located, pc)?;
             push_holder(out, &located.places, phase, holder)?;
             push_wait_remedy(out)
         }

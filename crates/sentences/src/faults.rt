@@ -1,6 +1,6 @@
 //! Sentences on what is wrong with a part of a line.
 ghost use Rattle.std.specs.Prelude.{◌≡◌, ◌++◌, OnOk};
-ghost use Rattle.sentences.specs.Faults.{sort_text, wanted_text, has_operands, example_text, form_text, operands_text, operand_sort_text, found_text, found_if, wanted_operand, is_operand, operand_text, bound_text, bounds_text, isnt_number, is_too_far, range_text, offset_text, index_text, interval_text, declared_as, again_text, wants_core_of, has_task_there, taken_text, is_wanted, undeclared_text, unfit_text, plain_cause, cause_text, finding_text};
+ghost use Rattle.sentences.specs.Faults.{sort_text, wanted_text, example_text, operands_text, operand_sort_text, found_if, wanted_operand, is_operand, operand_text, bounds_text, isnt_number, is_too_far, range_text, offset_text, index_text, interval_text, declared_as, again_text, taken_text, is_wanted, undeclared_text, unfit_text, plain_cause, cause_text, finding_text};
 
 use crate::examples::{Form, operands_as};
 use crate::findings::{Cause, Finding, Wanted};
@@ -8,7 +8,8 @@ use crate::known::Sort;
 use crate::marks::{push_mark_line, push_part};
 use crate::wrong_operands::{OperandSort, WrongOperand};
 use dn_base::Memory;
-use text_pieces::{push, push_decimal, push_long, push_signed};
+use text_pieces::Piece::{Bytes, Number};
+use text_pieces::{push, push_decimal, push_long, push_pieces, push_signed};
 
 /// What a name is declared as.
 fn sort_text(sort: Sort) -> &'static [u8]
@@ -33,37 +34,28 @@ fn wanted_text(wanted: Wanted) -> &'static [u8]
     }
 }
 
-#[tactic(auto, unfolding(crate::specs::Faults::has_operands))]
-fn push_has_operands(out: &mut Vec<u8>) -> Result<(), Memory>
-    ensures { OnOk result (out.new.items ≡ out.old.items ++ has_operands) }
-{
-    push(out, b" has operands as in `")
-}
-
-#[tactic(auto, unfolding(crate::specs::Faults::example_text))]
+#[tactic(auto, unfolding(crate::specs::Faults::example_text, crate::specs::Faults::has_operands))]
 fn push_example(out: &mut Vec<u8>, form: Form) -> Result<(), Memory>
     ensures { OnOk result (out.new.items ≡ out.old.items ++ example_text form) }
 {
-    push_has_operands(out)?;
-    push(out, operands_as(form))?;
-    push(out, b"`.")
+    push_pieces(
+        out,
+        &[
+            Bytes(b" has operands as in `"),
+            Bytes(operands_as(form)),
+            Bytes(b"`."),
+        ],
+    )
 }
 
-fn push_form(out: &mut Vec<u8>, form: Form) -> Result<(), Memory>
-    ensures { OnOk result (out.new.items ≡ out.old.items ++ form_text form) }
-{
-    match form {
-        Form::Nothing => push(out, b" has no operands."),
-        _ => push_example(out, form),
-    }
-}
-
+/// Adds which operands a word has.
 fn push_operands(out: &mut Vec<u8>, form: Option<Form>) -> Result<(), Memory>
     ensures { OnOk result (out.new.items ≡ out.old.items ++ operands_text form) }
 {
     match form {
-        Some(form) => push_form(out, form),
         None => push(out, b" has other operands than these."),
+        Some(Form::Nothing) => push(out, b" has no operands."),
+        Some(form) => push_example(out, form),
     }
 }
 
@@ -79,19 +71,13 @@ fn operand_sort_text(sort: OperandSort) -> &'static [u8]
     }
 }
 
+/// Adds what an operand is, if that is known.
 #[tactic(auto, unfolding(crate::specs::Faults::found_text))]
-fn push_found(out: &mut Vec<u8>, sort: OperandSort) -> Result<(), Memory>
-    ensures { OnOk result (out.new.items ≡ out.old.items ++ found_text sort) }
-{
-    push(out, b". It is ")?;
-    push(out, operand_sort_text(sort))
-}
-
-fn push_found_if(out: &mut Vec<u8>, sort: Option<OperandSort>) -> Result<(), Memory>
+fn push_found(out: &mut Vec<u8>, sort: Option<OperandSort>) -> Result<(), Memory>
     ensures { OnOk result (out.new.items ≡ out.old.items ++ found_if sort) }
 {
     match sort {
-        Some(sort) => push_found(out, sort),
+        Some(sort) => push_pieces(out, &[Bytes(b". It is "), Bytes(operand_sort_text(sort))]),
         None => Ok(()),
     }
 }
@@ -121,24 +107,17 @@ fn push_operand(out: &mut Vec<u8>, wrong: WrongOperand, form: Form) -> Result<()
 {
     push_is_operand(out)?;
     push_decimal(out, wrong.number)?;
-    push_found_if(out, wrong.found)?;
+    push_found(out, wrong.found)?;
     push_wanted_operand(out, wrong.wanted, form)
 }
 
-#[tactic(auto, unfolding(crate::specs::Faults::bound_text))]
-fn push_bound(out: &mut Vec<u8>, number: i32) -> Result<(), Memory>
-    ensures { OnOk result (out.new.items ≡ out.old.items ++ bound_text number) }
-{
-    push_signed(out, number)
-}
-
-#[tactic(auto, unfolding(crate::specs::Faults::bounds_text))]
+#[tactic(auto, unfolding(crate::specs::Faults::bounds_text, crate::specs::Faults::bound_text))]
 fn push_bounds(out: &mut Vec<u8>, low: i32, high: i32) -> Result<(), Memory>
     ensures { OnOk result (out.new.items ≡ out.old.items ++ bounds_text low high) }
 {
-    push_bound(out, low)?;
+    push_signed(out, low)?;
     push(out, b" to ")?;
-    push_bound(out, high)?;
+    push_signed(out, high)?;
     push(out, b".")
 }
 
@@ -218,35 +197,25 @@ fn push_again(out: &mut Vec<u8>, line: u32, sort: Sort) -> Result<(), Memory>
     push_declared_as(out, line, sort)
 }
 
-#[tactic(auto, unfolding(crate::specs::Faults::wants_core_of))]
-fn push_wants_core_of(out: &mut Vec<u8>) -> Result<(), Memory>
-    ensures { OnOk result (out.new.items ≡ out.old.items ++ wants_core_of) }
-{
-    push(out, b" wants a core for which line ")
-}
-
-#[tactic(auto, unfolding(crate::specs::Faults::has_task_there))]
-fn push_has_task_there(out: &mut Vec<u8>) -> Result<(), Memory>
-    ensures { OnOk result (out.new.items ≡ out.old.items ++ has_task_there) }
-{
-    push(out, b" declares a task in this phase.")
-}
-
-#[tactic(auto, unfolding(crate::specs::Faults::taken_text))]
+#[tactic(auto, unfolding(crate::specs::Faults::taken_text, crate::specs::Faults::wants_core_of, crate::specs::Faults::has_task_there))]
 fn push_taken(out: &mut Vec<u8>, line: u32) -> Result<(), Memory>
     ensures { OnOk result (out.new.items ≡ out.old.items ++ taken_text line) }
 {
-    push_wants_core_of(out)?;
-    push_decimal(out, line)?;
-    push_has_task_there(out)
+    push_pieces(
+        out,
+        &[
+            Bytes(b" wants a core for which line "),
+            Number(line),
+            Bytes(b" declares a task in this phase."),
+        ],
+    )
 }
 
 #[tactic(auto, unfolding(crate::specs::Faults::is_wanted))]
 fn push_wanted(out: &mut Vec<u8>, wanted: Wanted) -> Result<(), Memory>
     ensures { OnOk result (out.new.items ≡ out.old.items ++ is_wanted wanted) }
 {
-    push(out, b" is wanted as ")?;
-    push(out, wanted_text(wanted))
+    push_pieces(out, &[Bytes(b" is wanted as "), Bytes(wanted_text(wanted))])
 }
 
 #[tactic(auto, unfolding(crate::specs::Faults::undeclared_text))]

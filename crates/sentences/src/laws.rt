@@ -42,6 +42,8 @@ ghost use Rattle.sentences.specs.declared.findings.Finding.{Finding as FindingOf
 ghost use Rattle.sentences.specs.declared.known.Known.{Known as KnownOf};
 ghost use Rattle.sentences.specs.Findings.{code_out_of_range, out_of_range_at, behind_label, operand_at, finding_of};
 ghost use Rattle.sentences.specs.Marks.{IsPartOf};
+ghost use Rattle.sentences.specs.Loops.{loop_around, IsLoopAround};
+ghost use Rattle.sentences.specs.declared.loops.Loop.{Loop as LoopOf};
 ghost use Rattle.rv_assembler.specs.declared.fault.SourceFault.{SourceFault};
 ghost use Rattle.sentences.specs.Operands.{IsWrongOperand};
 ghost use Rattle.sentences.specs.declared.examples.Form.{Form as FormOf};
@@ -211,4 +213,10 @@ pub fn the_marked_operand_is_the_one_that_is_named()
 /// before. So the marks stand under bytes of the line, and the part that the sentence names isn't empty.
 pub fn the_marked_part_lies_in_its_line()
     ensures { (text bytes : List ℕ) (fault : SourceFault) (x : FindingOf) → finding_of text bytes fault ≡ Some x → IsPartOf bytes x.part }
+{}
+
+/// The loop that is named of an instruction has it: the instruction is not before the loop's head, and not behind the branch or
+/// jump that goes back to the head, which is one of the program's code words.
+pub fn a_named_loop_is_around_the_instruction()
+    ensures { (code : List ℕ) (pc : ℕ) (l : LoopOf) → loop_around code pc ≡ Some l → IsLoopAround code pc 4096 l }
 {}

@@ -2,7 +2,7 @@
 ghost use Rattle.std.specs.Prelude.{◌≡◌, ◌++◌, OnOk, slice_get};
 ghost use Rattle.region_table.specs.Tasks.{declared};
 ghost use Rattle.sentences.specs.Told.{AreTold};
-ghost use Rattle.sentences.specs.Outside.{operands_of, plain_effect, guarded_effect, declare_it, or_mended, plain_remedy, family_text, own_words, by_step, step_remedy, shared_remedy, effect_remedy, guarded_remedy, held_remedy, acquire_remedy, apart_remedy, guarding_text, same_phase, used_text, reading_text, nobody_text, others_text, free_text, undeclared_text, read_only_text, declares_it_under, under_text, read_under_text, own_text, word_sentences, nowhere_text, first_region, further_on, before_text, region_line, last_region, counted, lacked_word, behind_text, is_stack, stack_text, stack_if, region_said, site_sentences, outside_sentences};
+ghost use Rattle.sentences.specs.Outside.{operands_of, plain_effect, guarded_effect, declare_it, or_mended, plain_remedy, family_text, own_words, step_remedy, shared_remedy, effect_remedy, guarded_remedy, held_remedy, acquire_remedy, guarding_text, same_phase, used_text, reading_text, nobody_text, others_text, free_text, undeclared_text, read_only_text, declares_it_under, under_text, read_under_text, own_text, word_sentences, first_region, before_text, region_line, last_region, counted, lacked_word, behind_text, is_stack, stack_if, region_said, site_sentences, outside_sentences};
 
 use crate::conflicts::push_core;
 use crate::effects::push_declared_effects;
@@ -109,21 +109,14 @@ fn push_own_words(out: &mut Vec<u8>) -> Result<(), Memory>
     )
 }
 
-#[tactic(auto, unfolding(crate::specs::Outside::by_step))]
-fn push_by_step(out: &mut Vec<u8>) -> Result<(), Memory>
-    ensures { OnOk result (out.new.items ≡ out.old.items ++ by_step) }
-{
-    push(out, b", 0, 1, 1`, or correct the address.\n")
-}
-
 /// Adds how the tasks of a family may store to words of a region.
-#[tactic(auto, unfolding(crate::specs::Outside::step_remedy))]
+#[tactic(auto, unfolding(crate::specs::Outside::step_remedy, crate::specs::Outside::by_step))]
 fn push_step_remedy(out: &mut Vec<u8>, program: &Program, place: WordPlace) -> Result<(), Memory>
     ensures { OnOk result (out.new.items ≡ out.old.items ++ step_remedy program.now place) }
 {
     push_own_words(out)?;
     push(out, name_of(program.regions.as_slice(), place.region))?;
-    push_by_step(out)
+    push(out, b", 0, 1, 1`, or correct the address.\n")
 }
 
 /// Adds which effect of a family's tasks fixes the access of one of them.
@@ -209,16 +202,6 @@ fn push_acquire_remedy(out: &mut Vec<u8>, lock: usize) -> Result<(), Memory>
     )
 }
 
-#[tactic(auto, unfolding(crate::specs::Outside::apart_remedy))]
-fn push_apart_remedy(out: &mut Vec<u8>) -> Result<(), Memory>
-    ensures { OnOk result (out.new.items ≡ out.old.items ++ apart_remedy) }
-{
-    push(
-        out,
-        b"  Use it in another phase, or have one lock guard it for both tasks by `.greads` and `.gwrites`; or correct the address.\n",
-    )
-}
-
 /// Adds for which task the lock guards the word.
 #[tactic(auto, unfolding(crate::specs::Outside::guarding_text))]
 fn push_guarding(
@@ -276,6 +259,7 @@ fn push_nobody(out: &mut Vec<u8>) -> Result<(), Memory>
 }
 
 /// Adds what the other tasks of the phase declare of the word, and the remedy.
+#[tactic(auto, unfolding(crate::specs::Outside::apart_remedy))]
 fn push_others(
     out: &mut Vec<u8>,
     located: &Located,
@@ -296,7 +280,10 @@ fn push_others(
         }
         Others::Contending(other) => {
             push_used(out, located, phase, other, b" uses it without a lock.\n")?;
-            push_apart_remedy(out)
+            push(
+                out,
+                b"  Use it in another phase, or have one lock guard it for both tasks by `.greads` and `.gwrites`; or correct the address.\n",
+            )
         }
         Others::Reading(other) => {
             push_reading(out, located, phase, other)?;
@@ -442,16 +429,6 @@ fn push_word_sentences<'a>(
     }
 }
 
-#[tactic(auto, unfolding(crate::specs::Outside::nowhere_text))]
-fn push_nowhere(out: &mut Vec<u8>) -> Result<(), Memory>
-    ensures { OnOk result (out.new.items ≡ out.old.items ++ nowhere_text) }
-{
-    push(
-        out,
-        b"  The text declares no region.\n  Declare one by `.region`, and its words by an effect behind the task's line.\n",
-    )
-}
-
 #[tactic(auto, unfolding(crate::specs::Outside::first_region))]
 fn push_first_region(out: &mut Vec<u8>) -> Result<(), Memory>
     ensures { OnOk result (out.new.items ≡ out.old.items ++ first_region) }
@@ -459,25 +436,22 @@ fn push_first_region(out: &mut Vec<u8>) -> Result<(), Memory>
     push(out, b"  The first region, ")
 }
 
-#[tactic(auto, unfolding(crate::specs::Outside::further_on))]
-fn push_further_on(out: &mut Vec<u8>) -> Result<(), Memory>
-    ensures { OnOk result (out.new.items ≡ out.old.items ++ further_on) }
-{
-    push(
-        out,
-        b" bytes further on, at 0x10000000.\n  Put the address of a word into the register first, by `la`.\n",
-    )
-}
-
-#[tactic(auto, unfolding(crate::specs::Outside::before_text))]
+#[tactic(auto, unfolding(crate::specs::Outside::before_text, crate::specs::Outside::further_on))]
 fn push_before(out: &mut Vec<u8>, program: &Program, bytes: u32) -> Result<(), Memory>
     ensures { OnOk result (out.new.items ≡ out.old.items ++ before_text program.now bytes) }
 {
     push_first_region(out)?;
-    push(out, name_of(program.regions.as_slice(), 0))?;
-    push(out, b", begins ")?;
-    push_decimal(out, bytes)?;
-    push_further_on(out)
+    push_pieces(
+        out,
+        &[
+            Bytes(name_of(program.regions.as_slice(), 0)),
+            Bytes(b", begins "),
+            Number(bytes),
+            Bytes(
+                b" bytes further on, at 0x10000000.\n  Put the address of a word into the register first, by `la`.\n",
+            ),
+        ],
+    )
 }
 
 fn push_region_line(out: &mut Vec<u8>, line: Option<u32>) -> Result<(), Memory>
@@ -546,27 +520,23 @@ fn is_stack(name: &[u8]) -> bool
     first(name, 6) == b"stack_".as_slice()
 }
 
-#[tactic(auto, unfolding(crate::specs::Outside::stack_text))]
-fn push_stack(out: &mut Vec<u8>) -> Result<(), Memory>
-    ensures { OnOk result (out.new.items ≡ out.old.items ++ stack_text) }
-{
-    push(
-        out,
-        b"  If `tools/from_c.py` made the text, this is a stack: where a task's own stack ran over, the option `--stack` gives it more words.\n",
-    )
-}
-
 /// Adds what is said of a region that may be a stack.
+#[tactic(auto, unfolding(crate::specs::Outside::stack_text))]
 fn push_region_said(out: &mut Vec<u8>, program: &Program, region: usize) -> Result<(), Memory>
     ensures { OnOk result (out.new.items ≡ out.old.items ++ region_said program.now region) }
 {
     if is_stack(name_of(program.regions.as_slice(), region)) {
-        push_stack(out)
+        push(
+            out,
+            b"  If `tools/from_c.py` made the text, this is a stack: where a task's own stack ran over, the option `--stack` gives it more words.\n",
+        )
     } else {
         Ok(())
     }
 }
 
+/// Adds what is said of an address, by where it is.
+#[tactic(auto, unfolding(crate::specs::Outside::nowhere_text))]
 fn push_site<'a>(
     out: &mut Vec<u8>,
     text: &[u8],
@@ -597,7 +567,10 @@ fn push_site<'a>(
             push_region_said(out, &located.program, 0)
         }
         Site::Behind { region, index } => push_behind(out, located, region, index),
-        Site::Nowhere => push_nowhere(out),
+        Site::Nowhere => push(
+            out,
+            b"  The text declares no region.\n  Declare one by `.region`, and its words by an effect behind the task's line.\n",
+        ),
     }
 }
 

@@ -70,7 +70,7 @@ impl<'a> ToldEffects<'a> {
     }
 
     /// What is told of the effects of a family of tasks on the region of this name.
-    pub(crate) fn told(&self, family: u32, name: &'a [u8]) -> Told
+    pub(crate) fn effects_of_family(&self, family: u32, name: &'a [u8]) -> Told
         ensures { result ≡ told_by self.now family name.now }
     {
         match self.by_task.get(&(family, name)) {
@@ -86,7 +86,7 @@ impl<'a> ToldEffects<'a> {
             → told_by self.new family name ≡ with_line_if (is_behind text.now family name line) (told_by self.old family name) line) }
     {
         let region = token_bytes(text, line.effect.region);
-        let told = self.told(line.family, region).with_line(line);
+        let told = self.effects_of_family(line.family, region).with_line(line);
         self.by_task.insert((line.family, region), told)?;
         Ok(())
     }

@@ -5,7 +5,7 @@ use Rattle.explained_answer.proofs.line_parsing.read_other.Goals as goal
 
 pub returns-in_err-line-clause-none : goal.returns-in_err-line-clause-none
 returns-in_err-line-clause-none c =
-    if-none c.from_residual.result _ (no-other c.args.bytes.now c.in_default.ensures.none c.in_default-unbounded.ensures.none c.in_default-sum.ensures.none c.in_default-ticks.ensures.none c.in_default-link.ensures.none c.in_err-line.ensures.none)
+    if-none c.from_residual.result _ (no-other c.args.bytes.now c.in_default.ensures.none c.in_default-unbounded_line.ensures.none c.in_default-sum.ensures.none c.in_default-ticks.ensures.none c.in_default-link.ensures.none c.in_err-line.ensures.none)
 
 pub returns-in-Some-ticks-clause-some : goal.returns-in-Some-ticks-clause-some
 returns-in-Some-ticks-clause-some c =

@@ -9,6 +9,6 @@ pub returns : goal.returns
 returns c =
     let region = c.token_bytes-region.result in
     let before = c.args.self.now.by_task in
-    let told = c.with_line-told.ensures ∙ ap (λ (t : Told). with_line t c.args.line) c.told.ensures in
+    let told = c.with_line-told.ensures ∙ ap (λ (t : Told). with_line t c.args.line) c.effects_of_family.ensures in
     told-added c.args.text.now c.args.line before c.insert.new.self region c.token_bytes-region.ensures
     (subst (λ (t : Told). UpdatesBy key_cmp (key_cmp (c.args.line.family, region)) before c.insert.new.self (Some t)) told c.in_ok-insert.ensures.updates)

@@ -1,6 +1,6 @@
 use Rattle.text_pieces.proofs.Fields.{if-none}
 use Rattle.explained_answer.proofs.Others.{no-fixed}
-use Rattle.explained_answer.proofs.programs.fixed.Goals as goal
+use Rattle.explained_answer.proofs.programs.fixed_line.Goals as goal
 
 pub returns-in_err-rest-clause-none : goal.returns-in_err-rest-clause-none
 returns-in_err-rest-clause-none c =

@@ -3,7 +3,7 @@ use Rattle.text_pieces.proofs.Fields.{if-none}
 use Rattle.explained_answer.specs.Parts.{pair_fields}
 use Rattle.explained_answer.proofs.Forms.{two-next}
 use Rattle.explained_answer.proofs.Others.{unbounded-parts}
-use Rattle.explained_answer.proofs.programs.unbounded.Goals as goal
+use Rattle.explained_answer.proofs.programs.unbounded_line.Goals as goal
 
 pub returns-in_err-phase-clause-none : goal.returns-in_err-phase-clause-none
 returns-in_err-phase-clause-none c =
