@@ -19,7 +19,8 @@ somewhere else to come from. It takes texts that assemble and check; it refuses 
                                             the answer of a document's run for readers, with numbers of this base
     tools/reference.py state [N] < DOCUMENT the state before event N of a document, from 0, and which events may come there, in the lines
                                             of docs/VIEWS.md
-    tools/reference.py chart [--first=N] [--rows=N] [--tick-core=N] [--tick-bank=N] [--tick-mail=N] [--columns=used] < DOCUMENT
+    tools/reference.py chart [--first=N] [--rows=N] [--tick-core=N] [--tick-bank=N] [--tick-mail=N] [--columns=used]
+                             [--plain=off|lines] [--words=LIST] [--actors=LIST] [--fit=slide] < DOCUMENT
                                             the message chart of a document that replays, by docs/VIEWS.md
     tools/reference.py page [FIRST [ROWS [NAME]]] < DOCUMENT
                                             the data of the page of a document's run, from event FIRST on (0) with ROWS events at most

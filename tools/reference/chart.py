@@ -31,10 +31,16 @@ ABOUT_WORD = ("read-req", "read-fwd", "data-reply", "reg-req", "reg-fwd", "reg-a
 ABOUT_LOCK = ("acquire", "release", "grant")
 
 
-class Chart:
-    """The message chart of a range of a document's events, as an SVG text."""
+# how large a slide is shown
+SLIDE = (1280, 720)
 
-    def __init__(self, data, first=0, most=1000, ticks=(1, 10, 5), used=False):
+
+class Chart:
+    """The message chart of a range of a document's events, as an SVG text. Events may be left out: plain instructions (all, or those that don't
+    begin their line), those that have nothing to do with these words, and those of other actors; words and actors are lists of names with
+    commas between them."""
+
+    def __init__(self, data, first=0, most=1000, ticks=(1, 10, 5), used=False, plain="on", words="", actors="", slide=False):
         sizes, text, self.events = read_document(data)
         self.first, self.total = first, len(self.events)
         self.program = assemble(text.decode("utf-8", "replace"))
@@ -51,11 +57,42 @@ class Chart:
         self.waits = []
         if first + most >= self.total:
             self.waits = [(node.core, node.wait[1]) for node in self.machine.nodes if node.wait and node.wait[0] == "locking"]
-        self.banks = list(range(self.machine.banks))
+        self.slide, self.counted, self.note = slide, len(self.rows), ""
+        self.leave_out(plain, words.split(",") if words else None, actors.split(",") if actors else None)
+        self.cores, self.banks = list(range(self.machine.cores)), list(range(self.machine.banks))
         if used:
             busy = {row["actor"] for row in self.rows} | {row["from"][0] for row in self.rows if row["from"]}
-            busy |= {mail[2] for mail, _ in self.leaving}
+            busy |= {mail[2] for mail, _ in self.leaving} | {("core", core) for core, _ in self.waits}
+            self.cores = [core for core in self.cores if ("core", core) in busy]
             self.banks = [bank for bank in self.banks if ("bank", bank) in busy]
+
+    def leave_out(self, plain, words, actors):
+        """Keeps the events that are asked for. Their rows stand one below the other, and arrows begin on the lines that rows have then."""
+        wanted = None if words is None else [word for word in range(len(self.program.memory))
+                                             if {self.word(word), "0x%08x" % (0x10000000 + 4 * word)} & set(words)]
+        everybody = [("core", core) for core in range(self.machine.cores)] + [("bank", bank) for bank in range(self.machine.banks)] + ["keeper"]
+        chosen = None if actors is None else [actor for actor in everybody if self.actor(actor).replace(" ", "") in actors]
+        rows, places, line = [], {}, 0
+        for row in self.rows:
+            of_word = words is None or row["ends_phase"] or set(wanted) & (row["words"] | {change[0] for change in row["changes"]})
+            shown = not row["plain"] or plain == "on" or plain == "lines" and not row["later"]
+            if shown and of_word and (chosen is None or row["actor"] in chosen):
+                if wanted is not None:
+                    row["changes"] = [change for change in row["changes"] if change[0] in wanted]
+                places[row["line"]], row["line"] = line, line
+                line += self.height(row)
+                rows.append(row)
+        for row in rows:
+            if row["from"]:
+                row["from"] = (row["from"][0], places.get(row["from"][1]))
+        self.rows, self.line = rows, line
+        self.leaving = [(mail, places[sent]) for mail, sent in self.leaving if sent in places]
+        self.waits = [(core, lock) for core, lock in self.waits if chosen is None or ("core", core) in chosen]
+        parts = {"on": [], "lines": [" with la and li as one row"], "off": [" without plain instructions"]}[plain]
+        parts += [] if words is None else [" words" + ",".join(" " + self.word(word) for word in wanted)]
+        parts += [] if actors is None else [" actors" + ",".join(" " + self.actor(actor) for actor in chosen)]
+        if parts:
+            self.note = "; kept %d of %d events:%s" % (len(rows), self.counted, ";".join(parts))
 
     def longest(self, sizes, ticks):
         """The numbers of the events of the longest chain, where a core's own event, one of a bank and another take so many ticks."""
@@ -81,25 +118,33 @@ class Chart:
 
     def add(self, number, event):
         machine = self.machine
-        row = {"event": number, "line": self.line, "from": None, "about": "", "end": None, "phase": machine.keeper.phase}
+        row = {"event": number, "line": self.line, "from": None, "about": "", "end": None, "phase": machine.keeper.phase, "plain": False, "later": False,
+               "words": set()}
         if event[0] == "handle":
             mail = next(mail for mail in machine.pool if mail[:2] == event[1:])
             row.update({"actor": mail[2], "kind": mail[3][0], "from": (mail[0], self.sent.pop(mail[:2], None)), "about": self.about(mail[3])})
+            if mail[3][0] in ABOUT_WORD:
+                row["words"] = {mail[3][1]}
         else:
             row.update({"actor": ("core", event[1]), "kind": event[0]})
             task = machine.nodes[event[1]].task
             if event[0] == "instr":
+                row["plain"] = machine.nodes[event[1]].next[0] == "local"
+                if machine.nodes[event[1]].next[0] in ("load", "store"):
+                    row["words"] = {machine.nodes[event[1]].next[1]}
                 at = (task.pc - 0x1000) // 4
                 if task.pc % 4 == 0 and 0 <= at < len(self.program.code):
                     line, part = self.lines_of_code[at]
+                    row["later"] = part > 0
                     row["kind"] = "line %d%s: %s" % (line, " (second word)" if part else "", instruction_text(self.program.code[at]))
                 if machine.nodes[event[1]].next[0] == "end":
                     row["end"] = machine.nodes[event[1]].next[1]
             elif event[0] == "evict":
-                row["about"] = " " + self.word(event[2])
+                row["about"], row["words"] = " " + self.word(event[2]), {event[2]}
         before, numbers = self.states(row["actor"]), dict(machine.numbers)
         machine.step(event)
         after = self.states(row["actor"])
+        row["ends_phase"] = machine.keeper.phase != row["phase"]
         row["changes"] = [(word, before.get(word, "none"), after.get(word, "none"))
                           for word in sorted(before.keys() | after.keys()) if before.get(word) != after.get(word)]
         actor = row["actor"]
@@ -127,10 +172,8 @@ class Chart:
     # where things stand
 
     def x(self, actor):
-        place = self.machine.cores + len(self.banks)
-        if actor != "keeper":
-            place = actor[1] if actor[0] == "core" else self.machine.cores + len([bank for bank in self.banks if bank < actor[1]])
-        return 300 + 132 * place
+        columns = [("core", core) for core in self.cores] + [("bank", bank) for bank in self.banks] + ["keeper"]
+        return 300 + 132 * columns.index(actor)
 
     @staticmethod
     def y(line):
@@ -142,13 +185,18 @@ class Chart:
         width = self.x("keeper") + 300
         bottom = self.y(self.line + len(self.leaving) + len(self.waits))
         height = bottom + 18
+        if self.slide:
+            unit = max(-(-width // 16), -(-height // 9))
+            width, height = 16 * unit, 9 * unit
+        shown = SLIDE if self.slide else (width, height)
         machine = self.machine
-        count = len(self.rows)
+        count = self.counted
         title = "Message chart: events %d to %d of %d" % (self.first, self.first + count - 1, self.total) if count else \
             "Message chart: no event of %d" % self.total
+        title += self.note
         size = "Machine: cores %d, banks %d, sets %d, ways %d, fuel %d" % (machine.cores, machine.banks, machine.sets, machine.ways, machine.fuel)
         out = ["<svg xmlns='http://www.w3.org/2000/svg' class='denovo-chart' role='img' font-family='monospace' font-size='12' width='%d' height='%d' "
-               "viewBox='0 0 %d %d'>\n" % (width, height, width, height),
+               "viewBox='0 0 %d %d'>\n" % (*shown, width, height),
                "<title>%s</title>\n<desc>%s%s</desc>\n" % (title, size, CHART_MEANING), CHART_STYLE,
                "<rect class='denovo-ground' width='%d' height='%d'/>\n" % (width, height),
                self.words("denovo-title", 8, 22, title), self.words("denovo-size", 8, 40, size), CHART_LEGEND]
@@ -161,7 +209,7 @@ class Chart:
                 out.append("<path class='denovo-rule' d='M0 %dH%d'/>\n" % (top, width))
                 out.append(self.words("denovo-left denovo-number", width - 8, top + 13, "phase %d" % row["phase"]))
             phase = row["phase"]
-        for actor in [("core", core) for core in range(machine.cores)] + [("bank", bank) for bank in self.banks] + ["keeper"]:
+        for actor in [("core", core) for core in self.cores] + [("bank", bank) for bank in self.banks] + ["keeper"]:
             x = self.x(actor)
             out.append(self.words("denovo-actor", x, 96, self.actor(actor)))
             out.append("<path class='denovo-lane' d='M%d 104V%d'/>\n" % (x, bottom))

@@ -86,10 +86,12 @@ def command(words):
         opened(assemble(sys.stdin.read()), o).run(o["seed"], lambda event: print(event_line(event)))
         return 0
     if words[:1] == ["chart"]:
-        o = {"first": 0, "rows": 1000, "tick-core": 1, "tick-bank": 10, "tick-mail": 5, "columns": "all"}
+        o = {"first": 0, "rows": 1000, "tick-core": 1, "tick-bank": 10, "tick-mail": 5, "columns": "all",
+             "plain": "on", "words": "", "actors": "", "fit": "rows"}
         o.update(word.lstrip("-").split("=") for word in words[1:])
         ticks = tuple(int(o["tick-" + kind]) for kind in ("core", "bank", "mail"))
-        chart = Chart(sys.stdin.buffer.read(), int(o["first"]), int(o["rows"]), ticks, o["columns"] == "used")
+        chart = Chart(sys.stdin.buffer.read(), int(o["first"]), int(o["rows"]), ticks, o["columns"] == "used", o["plain"], o["words"],
+                      o["actors"], o["fit"] == "slide")
         print(chart.text(), end="")
         return 0
     if words[:1] in (["account"], ["lists"]):

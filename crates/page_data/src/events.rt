@@ -103,6 +103,7 @@ fn make_row(
     requires made { machine.old.made < 4000000000 }
     ensures row { OnOk result (out.new.items ≡ out.old.items ++ (gap first ++ (newline ++ event_row event (event_made machine.old.state event)))) }
     ensures state { OnOk result (machine.new.state ≡ next machine.old.state event) }
+    ensures setting { OnOk result (machine.new.state.setting ≡ machine.old.state.setting) }
     ensures made { OnOk result (machine.new.made ≡ machine.old.made + 1) }
 {
     match make(alloc, machine, event)? {
@@ -120,7 +121,8 @@ fn make_rows(
 ) -> Result<(), Memory>
     requires run { IsRun machine.old.state events.now }
     requires few { machine.old.made + length events.now ≤ 4000000000 }
-    ensures { OnOk result (out.new.items ≡ out.old.items ++ event_rows true machine.old.state events.now) }
+    ensures rows { OnOk result (out.new.items ≡ out.old.items ++ event_rows true machine.old.state events.now) }
+    ensures setting { OnOk result (machine.new.state.setting ≡ machine.old.state.setting) }
 {
     let mut first = true;
     for event in events {
@@ -139,7 +141,8 @@ fn push_event_list(
 ) -> Result<(), Memory>
     requires run { IsRun machine.old.state events.now }
     requires few { machine.old.made + length events.now ≤ 4000000000 }
-    ensures { OnOk result (out.new.items ≡ out.old.items ++ event_list machine.old.state events.now) }
+    ensures list { OnOk result (out.new.items ≡ out.old.items ++ event_list machine.old.state events.now) }
+    ensures setting { OnOk result (machine.new.state.setting ≡ machine.old.state.setting) }
 {
     push(out, b"[")?;
     make_rows(alloc, out, machine, events)?;
@@ -156,10 +159,26 @@ pub(crate) fn push_events(
 ) -> Result<(), Memory>
     requires run { IsRun machine.old.state events.now }
     requires few { machine.old.made + length events.now ≤ 4000000000 }
-    ensures { OnOk result (out.new.items ≡ out.old.items ++ events_part machine.old.state events.now) }
+    ensures part { OnOk result (out.new.items ≡ out.old.items ++ events_part machine.old.state events.now) }
+    ensures setting { OnOk result (machine.new.state.setting ≡ machine.old.state.setting) }
 {
     push(out, b",\"events\":")?;
     push_event_list(alloc, out, machine, events)
+}
+
+/// Makes an event that is enabled.
+///
+/// # Errors
+/// `Memory` where there is no room for the messages.
+fn step(machine: &mut Machine, event: Event) -> Result<(), Memory>
+    requires may { enabled machine.old.state event ≡ true }
+    requires made { machine.old.made < 4000000000 }
+    ensures state { OnOk result (machine.new.state ≡ next machine.old.state event) }
+    ensures setting { OnOk result (machine.new.state.setting ≡ machine.old.state.setting) }
+    ensures made { OnOk result (machine.new.made ≡ machine.old.made + 1) }
+{
+    machine.step(event)?;
+    Ok(())
 }
 
 /// Makes events, which are enabled one after the other.
@@ -171,9 +190,10 @@ pub(crate) fn pass(machine: &mut Machine, events: &[Event]) -> Result<(), Memory
     requires few { machine.old.made + length events.now ≤ 4000000000 }
     ensures state { OnOk result (machine.new.state ≡ after machine.old.state events.now) }
     ensures made { OnOk result (machine.new.made ≡ machine.old.made + length events.now) }
+    ensures setting { OnOk result (machine.new.state.setting ≡ machine.old.state.setting) }
 {
     for event in events {
-        machine.step(*event)?;
+        step(machine, *event)?;
     }
     Ok(())
 }

@@ -1,16 +1,13 @@
 ghost use Rattle.std.specs.Prelude.{◌≡◌, ◌++◌, ◌+◌, ◌<◌, ◌≤◌, length, take, drop, IfOk, OnOk};
 ghost use Rattle.machine_rules.specs.Runs.{IsRun};
-ghost use Rattle.dn_machine.specs.Settings.{IsRunOn};
-ghost use Rattle.dn_machine.specs.Sizes.{FitsMachine};
 ghost use Rattle.machine_rules.specs.State.{initial_state};
-ghost use Rattle.page_data.specs.Page.{head_part, start_part, events_part, page_text, IsPageOf};
+ghost use Rattle.page_data.specs.Page.{head_part, start_part, events_part, page_text};
 
 use crate::events::{pass, push_events, push_start};
 use crate::head::{push_run, push_timing, push_title};
 use crate::program::{push_program, push_sizes};
-use dn_base::{MOST_EVENTS, Memory, Sequence, Shape};
-use dn_machine::{Machine, a_machine_is_kept};
-use effect_checker::Checked;
+use dn_base::{MOST_EVENTS, Memory, Sequence};
+use dn_machine::Machine;
 use grant_log::Counts;
 use message_net::Event;
 use run_timing::Timing;
@@ -39,7 +36,7 @@ pub struct Page<'a> {
 
 /// The first `wanted` events, and those after them.
 #[tactic(auto, using(std::proofs::lemmas::List::take_all, std::proofs::lemmas::List::drop_all))]
-pub(crate) fn parted(events: &[Event], wanted: u32) -> (&[Event], &[Event])
+pub(crate) fn part(events: &[Event], wanted: u32) -> (&[Event], &[Event])
     ensures front { result.0.now ≡ take wanted events.now }
     ensures back { result.1.now ≡ drop wanted events.now }
 {
@@ -75,7 +72,8 @@ pub(crate) fn push_states(
 ) -> Result<(), Memory>
     requires run { IsRun machine.old.state events.now }
     requires few { machine.old.made + length events.now ≤ 4000000000 }
-    ensures { OnOk result (out.new.items ≡ out.old.items ++ (start_part machine.old.state ++ events_part machine.old.state events.now)) }
+    ensures text { OnOk result (out.new.items ≡ out.old.items ++ (start_part machine.old.state ++ events_part machine.old.state events.now)) }
+    ensures setting { OnOk result (machine.new.state.setting ≡ machine.old.state.setting) }
 {
     push_start(alloc, out, machine)?;
     push_events(alloc, out, machine, events)
@@ -94,17 +92,28 @@ fn push_text(
     requires made { machine.old.made ≡ 0 }
     requires run { IsRun machine.old.state events.now }
     requires few { length events.now ≤ MOST_EVENTS }
-    ensures { OnOk result (out.new.items ≡ out.old.items ++ page_text machine.old.state.setting events.now page.now) }
+    ensures text { OnOk result (out.new.items ≡ out.old.items ++ page_text machine.old.state.setting events.now page.now) }
+    ensures setting { OnOk result (machine.new.state.setting ≡ machine.old.state.setting) }
 {
     push_head(alloc, out, machine, page, events.len())?;
-    let (before, rest) = parted(events, page.first);
+    let (before, rest) = part(events, page.first);
     pass(machine, before)?;
-    let (wanted, _) = parted(rest, page.most);
+    let (wanted, _) = part(rest, page.most);
     push_states(alloc, out, machine, wanted)
 }
 
-/// The data of a machine's page.
-fn text_of(
+/// The data of the page of a run, as one JSON text in ASCII without `<`: the program and its text, how the run ended, the state
+/// before the page's first event, and what each of its events changes in its actor's state and sends.
+///
+/// No event may have come on the machine, which is lent; the events must be a run of it, and at most 25,169,664. The page has at
+/// most 20,000 of them. Afterwards the machine is as the page's last event leaves it; `Machine::reset` sets it back.
+///
+/// An event before the page is only made, and one after it isn't looked at. A Go or a Grant on the page looks at each place of
+/// one cache, and any other event at a few words, at each lock, and at what it sends.
+///
+/// # Errors
+/// `Memory` if there is no room for the messages or the text.
+pub fn page_text(
     alloc: Global,
     machine: &mut Machine,
     events: &[Event],
@@ -114,41 +123,11 @@ fn text_of(
     requires made { machine.old.made ≡ 0 }
     requires run { IsRun machine.old.state events.now }
     requires few { length events.now ≤ MOST_EVENTS }
-    ensures { IfOk result (λ text. text ≡ page_text machine.old.state.setting events.now page.now) }
+    requires most { page.now.most ≤ 20000 }
+    ensures text { IfOk result (λ text. text ≡ page_text machine.old.state.setting events.now page.now) }
+    ensures setting { OnOk result (machine.new.state.setting ≡ machine.old.state.setting) }
 {
     let mut out = Vec::new(alloc);
     push_text(alloc, &mut out, machine, events, page)?;
     Ok(Sequence::from_vec(out))
-}
-
-/// The data of the page of a run, as one JSON text in ASCII without `<`: the program and its text, how the run ended, the state
-/// before the page's first event, and what each of its events changes in its actor's state and sends.
-///
-/// The events must be a run of the initial machine of the checked program, this shape and this fuel. The shape must have as
-/// many cores as the program needs, 1 to 16 banks, 1 to 256 sets and 1 to 16 ways. A task may retire `fuel` instructions, 1 to
-/// 32,768. There must be at most 25,169,664 events, and the page has at most 20,000 of them.
-///
-/// An event before the page is only made, and one after it isn't looked at. A Go or a Grant on the page looks at each place of
-/// one cache, and any other event at a few words, at each lock, and at what it sends.
-///
-/// # Errors
-/// `Memory` if there is no room for the machine, its messages or the text.
-pub fn page_text(
-    alloc: Global,
-    checked: Checked,
-    shape: Shape,
-    fuel: u32,
-    events: &[Event],
-    page: &Page<'_>,
-) -> Result<Sequence<u8>, Memory>
-    requires fits { FitsMachine checked shape fuel }
-    requires run { IsRunOn checked shape fuel events.now }
-    requires few { length events.now ≤ MOST_EVENTS }
-    requires most { page.now.most ≤ 20000 }
-    ensures { IfOk result (IsPageOf checked shape fuel events.now page.now) }
-{
-    let mut machine = Machine::start(alloc, checked, shape, fuel)?;
-    // for the proof alone: no event has come, so the machine is the opened one, and the events are a run of it
-    a_machine_is_kept(&machine);
-    text_of(alloc, &mut machine, events, page)
 }

@@ -3,20 +3,17 @@ ghost use Rattle.std.specs.Prelude.{◌≡◌, ◌++◌, ◌≤◌, length, take
 ghost use Rattle.std.specs.Fmt.{decimal};
 ghost use Rattle.machine_rules.specs.Runs.{IsRun};
 ghost use Rattle.machine_rules.specs.State.{initial_state};
-ghost use Rattle.dn_machine.specs.Settings.{IsRunOn};
-ghost use Rattle.dn_machine.specs.Sizes.{FitsMachine};
-ghost use Rattle.page_data.specs.Data.{machine_code_field, line_item, lines_field, page_finishes, finishes_field, data_title, data_head, tool_part, run_data_text, IsDataOf};
+ghost use Rattle.page_data.specs.Data.{machine_code_field, line_item, lines_field, page_finishes, finishes_field, data_title, data_head, tool_part, run_data_text};
 
 use crate::effects::push_effects_field;
 use crate::events::pass;
 use crate::head::{push_run, push_timing};
 use crate::json::push_named_string;
 use crate::lists::{Item, push_named_list};
-use crate::page::{Page, parted, push_states};
+use crate::page::{Page, part, push_states};
 use crate::program::{push_program, push_sizes};
-use dn_base::{MOST_EVENTS, Memory, Sequence, Shape};
-use dn_machine::{Machine, a_machine_is_kept};
-use effect_checker::Checked;
+use dn_base::{MOST_EVENTS, Memory, Sequence};
+use dn_machine::Machine;
 use message_net::Event;
 use region_table::{Program, a_program_is_well_formed};
 use std::alloc::Global;
@@ -129,18 +126,25 @@ fn push_data(
     requires made { machine.old.made ≡ 0 }
     requires run { IsRun machine.old.state events.now }
     requires few { length events.now ≤ MOST_EVENTS }
-    ensures { OnOk result (out.new.items ≡ out.old.items ++ run_data_text machine.old.state.setting events.now told.now) }
+    ensures text { OnOk result (out.new.items ≡ out.old.items ++ run_data_text machine.old.state.setting events.now told.now) }
+    ensures setting { OnOk result (machine.new.state.setting ≡ machine.old.state.setting) }
 {
     push_data_head(alloc, out, machine, &told.page, events.len())?;
     push_tool_part(out, machine, told)?;
-    let (before, rest) = parted(events, told.page.first);
+    let (before, rest) = part(events, told.page.first);
     pass(machine, before)?;
-    let (wanted, _) = parted(rest, told.page.most);
+    let (wanted, _) = part(rest, told.page.most);
     push_states(alloc, out, machine, wanted)
 }
 
-/// The data of a machine's run.
-fn text_of(
+/// The data of a run for other programs, as one JSON text in ASCII without `<`: what the data of its page have, with the code words
+/// as numbers and the line of each, the words that each task declares to use, and the tick at which each event finishes.
+///
+/// The premises are those of `page_text`, but there may be as many events as a run has. The text grows with them.
+///
+/// # Errors
+/// `Memory` if there is no room for the messages or the text.
+pub fn run_data_text(
     alloc: Global,
     machine: &mut Machine,
     events: &[Event],
@@ -150,35 +154,10 @@ fn text_of(
     requires made { machine.old.made ≡ 0 }
     requires run { IsRun machine.old.state events.now }
     requires few { length events.now ≤ MOST_EVENTS }
-    ensures { IfOk result (λ text. text ≡ run_data_text machine.old.state.setting events.now told.now) }
+    ensures text { IfOk result (λ text. text ≡ run_data_text machine.old.state.setting events.now told.now) }
+    ensures setting { OnOk result (machine.new.state.setting ≡ machine.old.state.setting) }
 {
     let mut out = Vec::new(alloc);
     push_data(alloc, &mut out, machine, events, told)?;
     Ok(Sequence::from_vec(out))
-}
-
-/// The data of a run for other programs, as one JSON text in ASCII without `<`: what the data of its page have, with the code words
-/// as numbers and the line of each, the words that each task declares to use, and the tick at which each event finishes.
-///
-/// The premises are those of `page_text`, but there may be as many events as a run has. The text grows with them.
-///
-/// # Errors
-/// `Memory` if there is no room for the machine, its messages or the text.
-pub fn run_data_text(
-    alloc: Global,
-    checked: Checked,
-    shape: Shape,
-    fuel: u32,
-    events: &[Event],
-    told: &RunData<'_>,
-) -> Result<Sequence<u8>, Memory>
-    requires fits { FitsMachine checked shape fuel }
-    requires run { IsRunOn checked shape fuel events.now }
-    requires few { length events.now ≤ MOST_EVENTS }
-    ensures { IfOk result (IsDataOf checked shape fuel events.now told.now) }
-{
-    let mut machine = Machine::start(alloc, checked, shape, fuel)?;
-    // for the proof alone: no event has come, so the machine is the opened one, and the events are a run of it
-    a_machine_is_kept(&machine);
-    text_of(alloc, &mut machine, events, told)
 }

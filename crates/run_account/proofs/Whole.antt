@@ -8,6 +8,7 @@ use Rattle.dn_machine.specs.Tried.{IsTried, HasStepped}
 use Rattle.machine_rules.specs.State.{State}
 use Rattle.machine_rules.specs.Next.{next, enabled}
 use Rattle.machine_rules.specs.Runs.{IsRun}
+use Rattle.machine_rules.proofs.RunsKept.{same-setting}
 use Rattle.run_account.specs.declared.item.Grouping.{Grouping}
 use Rattle.run_account.specs.declared.measure.Measure.{Measure}
 use Rattle.run_account.specs.Items.{groups_in}
@@ -41,6 +42,10 @@ drop-next es i d inside =
 
 pub tried-some : (S T : State) (e : Event) (came : Option (Actor × Stepped)) (x : Actor × Stepped) → came ≡ Some x → IsTried S T e came → HasStepped S T e x
 tried-some S T e came x is tried = subst (λ (o : Option (Actor × Stepped)). IsTried S T e o) is tried
+
+-- an event leaves the setting
+pub setting-next : (S T : State) (e : Event) → T ≡ next S e → T.setting ≡ S.setting
+setting-next S T e is = ap (λ (U : State). U.setting) is ∙ same-setting S e
 
 pub one-led : (S T : State) (A B X : Accounted) (es : List Event) (i : ℕ) (d : Event) → i < length es → T ≡ next S (get_or es i d) → B ≡ account_after S (get_or es i d) A
     → account_of_run S A (drop i es) ≡ X → account_of_run T B (drop (i + 1) es) ≡ X

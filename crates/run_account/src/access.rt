@@ -36,7 +36,7 @@ impl AccessKind {
     }
 
     /// What the core has of the word after the access.
-    pub(crate) fn gained(self, had: Option<Share>) -> Share
+    pub(crate) fn gain(self, had: Option<Share>) -> Share
         ensures { result ≡ gained self had }
     {
         match (self, had) {

@@ -143,7 +143,7 @@ impl Account {
     }
 
     /// How a lock was last granted.
-    pub(crate) fn handing(&self, lock: LockId) -> Handing
+    pub(crate) fn last_handing(&self, lock: LockId) -> Handing
         ensures { result ≡ handing_of self.now.handings lock.0 }
     {
         match self.handings.as_slice().get(lock.0 as usize) {

@@ -19,7 +19,7 @@ use word_cache::{Entry, Place};
 
 impl Occasion {
     /// The measure of the copies that are dropped.
-    fn dropped(self) -> Measure
+    fn drop_copies(self) -> Measure
         ensures { result ≡ dropped_at self }
     {
         match self {
@@ -39,7 +39,7 @@ impl Occasion {
     }
 
     /// The measure of the copies that stay.
-    fn kept(self) -> Measure
+    fn keep_copies(self) -> Measure
         ensures { result ≡ kept_at self }
     {
         match self {
@@ -83,7 +83,7 @@ impl Account {
           departures = departed self.old.departures node.now.core word.0 (why_at occasion);
         } }
     {
-        self.count(node, occasion.dropped(), Some(word));
+        self.count(node, occasion.drop_copies(), Some(word));
         if value == machine.word(word) {
             self.count(node, occasion.current(), Some(word));
         }
@@ -110,7 +110,7 @@ impl Account {
             return;
         }
         if occasion.spares(node, word, marked) {
-            self.count(node, occasion.kept(), Some(word));
+            self.count(node, occasion.keep_copies(), Some(word));
         } else {
             self.note_gone(machine, node, occasion, word, value);
         }

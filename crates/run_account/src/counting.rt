@@ -151,6 +151,6 @@ impl Listing {
             self.miss(access, had);
         }
         self.lists
-            .use_word(access.core, access.word, access.kind.gained(had))
+            .use_word(access.core, access.word, access.kind.gain(had))
     }
 }

@@ -7,8 +7,8 @@ ghost use Rattle.machine_rules.specs.Runs.{IsRun};
 ghost use Rattle.run_account.specs.Runs.{served_mail_items, served_items, nothing_listed, listing, listed_after, count_of_run};
 
 use crate::listing::Listing;
-use crate::retired::retired;
-use crate::served::served;
+use crate::retired::access_retired;
+use crate::served::core_served;
 use crate::{Grouping, Item, Measure};
 use dn_base::{CoreId, Memory, WordId};
 use dn_machine::{Machine, a_machine_is_kept};
@@ -35,7 +35,7 @@ impl Listing {
     fn note_mail(&mut self, machine: &Machine, mail: Mail)
         ensures { self.new ≡ listing self.old (served_mail_items machine.now.state (Some mail)) }
     {
-        if let Some((core, word)) = served(mail.to, mail.message) {
+        if let Some((core, word)) = core_served(mail.to, mail.message) {
             self.note_served(machine, core, word);
         }
     }
@@ -56,7 +56,7 @@ impl Listing {
         // for the proof alone: there are as many nodes as cores
         a_machine_is_kept(machine);
         if core.0 < machine.shape().cores {
-            if let Some(access) = retired(machine, core, machine.node(core)) {
+            if let Some(access) = access_retired(machine, core, machine.node(core)) {
                 self.note_access(&access)?;
             }
         }
@@ -90,6 +90,7 @@ impl Listing {
         ensures leads { result ≡ Ok true → self.new ≡ count_of_run machine.old.state self.old events.now }
         ensures comes { result ≡ Ok true → IsRun machine.old.state events.now }
         ensures none { result ≡ Ok false → IsRun machine.old.state events.now → ⊥ }
+        ensures setting { OnOk result (machine.new.state.setting ≡ machine.old.state.setting) }
     {
         for event in events {
             // it is noted before it comes, with the state before it
@@ -104,11 +105,13 @@ impl Listing {
     }
 }
 
-/// The events that come on a machine beside lists, in these groups; None if one of them are not enabled.
+/// The events that come on a machine that is lent, beside lists of sharers, in these groups; None if one of them is not enabled.
+/// Fewer than 4,000,000,000 events must have come on the machine after them. Afterwards it is as the events leave it, up to the
+/// first that is not enabled; `Machine::reset` sets it back.
 ///
 /// # Errors
 /// `Memory` where there is no room.
-fn listing_on(
+pub fn listing_of(
     alloc: Global,
     machine: &mut Machine,
     events: &[Event],
@@ -118,6 +121,7 @@ fn listing_on(
     ensures some { IfOk result (λ came. IfSome came (λ listing. listing ≡ count_of_run machine.old.state (nothing_listed machine.old.state.setting by) events.now)) }
     ensures comes { IfOk result (λ came. IfSome came (λ listing. IsRun machine.old.state events.now)) }
     ensures none { IfOk result (λ came. IfNone came (IsRun machine.old.state events.now → ⊥)) }
+    ensures setting { OnOk result (machine.new.state.setting ≡ machine.old.state.setting) }
 {
     let mut listing = Listing::new(alloc, machine, by)?;
     if listing.note_all(machine, events)? {
@@ -125,24 +129,4 @@ fn listing_on(
     } else {
         Ok(None)
     }
-}
-
-/// The events that come on a machine beside lists of sharers, in these groups; None if one of them are not enabled. Fewer than
-/// 4,000,000,000 events must have come on the machine after them.
-///
-/// # Errors
-/// `Memory` where there is no room.
-pub fn listing_of(
-    alloc: Global,
-    machine: Machine,
-    events: &[Event],
-    by: Grouping,
-) -> Result<Option<Listing>, Memory>
-    requires few { machine.made + length events.now ≤ 4000000000 }
-    ensures some { IfOk result (λ came. IfSome came (λ listing. listing ≡ count_of_run machine.state (nothing_listed machine.state.setting by) events.now)) }
-    ensures comes { IfOk result (λ came. IfSome came (λ listing. IsRun machine.state events.now)) }
-    ensures none { IfOk result (λ came. IfNone came (IsRun machine.state events.now → ⊥)) }
-{
-    let mut machine = machine;
-    listing_on(alloc, &mut machine, events, by)
 }

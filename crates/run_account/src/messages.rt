@@ -46,7 +46,7 @@ fn waits(node: &Node, lock: LockId) -> bool
 }
 
 /// The words that a node's phase may have written, if it has a plan.
-fn written<'a>(machine: &'a Machine, node: &Node) -> Option<&'a WordSet>
+fn words_written<'a>(machine: &'a Machine, node: &Node) -> Option<&'a WordSet>
     ensures { unwrap_or (option_copied result) [] ≡ written_in (slice_get machine.now.state.setting.plans node.now.phase) }
 {
     match machine.plans().get(node.phase().0 as usize) {
@@ -56,7 +56,7 @@ fn written<'a>(machine: &'a Machine, node: &Node) -> Option<&'a WordSet>
 }
 
 /// The words that a lock guards in a node's phase, if it has a plan and the plan the lock.
-fn guarded<'a>(machine: &'a Machine, node: &Node, lock: LockId) -> Option<&'a WordSet>
+fn words_guarded<'a>(machine: &'a Machine, node: &Node, lock: LockId) -> Option<&'a WordSet>
     ensures { unwrap_or (option_copied result) [] ≡ guarded_by (slice_get machine.now.state.setting.plans node.now.phase) lock.0 }
 {
     match machine.plans().get(node.phase().0 as usize) {
@@ -143,7 +143,7 @@ impl Account {
         } }
     {
         if begins(machine, node, phase) {
-            if let Some(words) = written(machine, node) {
+            if let Some(words) = words_written(machine, node) {
                 self.note_copies(machine, node, Occasion::Go, words);
             }
         }
@@ -158,7 +158,7 @@ impl Account {
         } }
     {
         if waits(node, lock) {
-            if let Some(words) = guarded(machine, node, lock) {
+            if let Some(words) = words_guarded(machine, node, lock) {
                 self.note_copies(machine, node, Occasion::Grant(signature), words);
             }
         }
@@ -172,7 +172,7 @@ impl Account {
           departures = lock_departs machine.now.state.setting self.old.departures node.now signature (node_gets machine.now.state.setting node.now (message.Grant lock signature)).1.granted;
         } }
     {
-        let measure = match self.handing(lock) {
+        let measure = match self.last_handing(lock) {
             Handing::AtOnce => Measure::GrantsAtOnce,
             Handing::Queued => Measure::GrantsQueued,
         };
@@ -208,7 +208,7 @@ impl Account {
 }
 
 /// How a lock is granted at once to a core that asks for it, if it is.
-fn acquired(home: &LockHome) -> Option<Handing>
+fn acquire(home: &LockHome) -> Option<Handing>
     ensures { result ≡ free_hands home.now.holder }
 {
     match home.holder() {
@@ -218,7 +218,7 @@ fn acquired(home: &LockHome) -> Option<Handing>
 }
 
 /// How a lock is handed on that a core gives up, if it is.
-fn released(home: &LockHome, core: CoreId) -> Option<Handing>
+fn release(home: &LockHome, core: CoreId) -> Option<Handing>
     ensures { result ≡ holder_hands core home.now.holder home.now.queue }
 {
     match home.holder() {
@@ -228,17 +228,17 @@ fn released(home: &LockHome, core: CoreId) -> Option<Handing>
 }
 
 /// How a bank grants a lock to a core that asks for it, if it does.
-fn asked(bank: &Bank, lock: LockId) -> Option<Handing>
+fn ask(bank: &Bank, lock: LockId) -> Option<Handing>
     ensures { result ≡ acquire_hands (bank_lock bank.now lock.0) }
 {
-    acquired(bank.lock(lock)?)
+    acquire(bank.lock(lock)?)
 }
 
 /// How a bank hands a lock on that a core gives up, if it does.
 fn given_up(bank: &Bank, lock: LockId, core: CoreId) -> Option<Handing>
     ensures { result ≡ release_hands core (bank_lock bank.now lock.0) }
 {
-    released(bank.lock(lock)?, core)
+    release(bank.lock(lock)?, core)
 }
 
 impl Account {
@@ -249,7 +249,7 @@ impl Account {
     {
         match message {
             Message::Acquire { lock, core } if core.0 < cores => {
-                self.hand(lock, asked(bank, lock));
+                self.hand(lock, ask(bank, lock));
             }
             Message::Release { lock, core, .. } if core.0 < cores => {
                 self.hand(lock, given_up(bank, lock, core));

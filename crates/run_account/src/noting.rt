@@ -1,5 +1,5 @@
 //! An event is noted.
-ghost use Rattle.std.specs.Prelude.{◌≡◌, ◌+◌, ◌<◌, ◌≤◌, true, false, length, Some, None, Ok, IfOk, IfSome, IfNone};
+ghost use Rattle.std.specs.Prelude.{◌≡◌, ◌+◌, ◌<◌, ◌≤◌, true, false, length, Some, None, Ok, IfOk, OnOk, IfSome, IfNone};
 ghost use Rattle.message_net.specs.declared.actor.Actor.TheVariants as actor;
 ghost use Rattle.message_net.specs.declared.event.Event.TheVariants as event;
 ghost use Rattle.message_net.specs.Pool.{removed};
@@ -112,6 +112,7 @@ impl Account {
         ensures leads { result ≡ Ok true → self.new ≡ account_of_run machine.old.state self.old events.now }
         ensures comes { result ≡ Ok true → IsRun machine.old.state events.now }
         ensures none { result ≡ Ok false → IsRun machine.old.state events.now → ⊥ }
+        ensures setting { OnOk result (machine.new.state.setting ≡ machine.old.state.setting) }
     {
         for event in events {
             // it is noted before it comes, with the state before it
@@ -126,11 +127,13 @@ impl Account {
     }
 }
 
-/// The account of the events that come on a machine, in these groups; None if one of them are not enabled.
+/// The account of the events that come on a machine that is lent, in these groups; None if one of them is not enabled. Fewer than
+/// 4,000,000,000 events must have come on the machine after them. Afterwards it is as the events leave it, up to the first that
+/// is not enabled; `Machine::reset` sets it back.
 ///
 /// # Errors
 /// `Memory` where there is no room.
-fn account_on(
+pub fn account_of(
     alloc: Global,
     machine: &mut Machine,
     events: &[Event],
@@ -140,6 +143,7 @@ fn account_on(
     ensures some { IfOk result (λ came. IfSome came (λ account. account ≡ account_of_run machine.old.state (no_account machine.old.state.setting by) events.now)) }
     ensures comes { IfOk result (λ came. IfSome came (λ account. IsRun machine.old.state events.now)) }
     ensures none { IfOk result (λ came. IfNone came (IsRun machine.old.state events.now → ⊥)) }
+    ensures setting { OnOk result (machine.new.state.setting ≡ machine.old.state.setting) }
 {
     let mut account = Account::new(alloc, machine, by)?;
     if account.note_all(machine, events)? {
@@ -147,24 +151,4 @@ fn account_on(
     } else {
         Ok(None)
     }
-}
-
-/// The account of the events that come on a machine, in these groups; None if one of them are not enabled. Fewer than
-/// 4,000,000,000 events must have come on the machine after them.
-///
-/// # Errors
-/// `Memory` where there is no room.
-pub fn account_of(
-    alloc: Global,
-    machine: Machine,
-    events: &[Event],
-    by: Grouping,
-) -> Result<Option<Account>, Memory>
-    requires few { machine.made + length events.now ≤ 4000000000 }
-    ensures some { IfOk result (λ came. IfSome came (λ account. account ≡ account_of_run machine.state (no_account machine.state.setting by) events.now)) }
-    ensures comes { IfOk result (λ came. IfSome came (λ account. IsRun machine.state events.now)) }
-    ensures none { IfOk result (λ came. IfNone came (IsRun machine.state events.now → ⊥)) }
-{
-    let mut machine = machine;
-    account_on(alloc, &mut machine, events, by)
 }

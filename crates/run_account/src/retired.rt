@@ -64,7 +64,7 @@ fn access_of_need(core: CoreId, node: &Node, need: Option<Need>) -> Option<Count
 
 /// The access that the next instruction of a core retires, if it retires one.
 #[tactic(auto, using(crate::proofs::Retires::retired_is))]
-pub(crate) fn retired(machine: &Machine, core: CoreId, node: &Node) -> Option<CountedAccess>
+pub(crate) fn access_retired(machine: &Machine, core: CoreId, node: &Node) -> Option<CountedAccess>
     requires { slice_get machine.now.state.nodes core.0 ≡ Some node.now }
     ensures { result ≡ counted_in machine.now.state (event.Instr core) }
 {

@@ -16,7 +16,7 @@ fn served_at(to: Actor, word: WordId) -> Option<(CoreId, WordId)>
 }
 
 /// The core that a message serves, and the word that it is about; None for messages about locks and phases.
-pub(crate) fn served(to: Actor, message: Message) -> Option<(CoreId, WordId)>
+pub(crate) fn core_served(to: Actor, message: Message) -> Option<(CoreId, WordId)>
     ensures { result ≡ served to message }
 {
     match message {

@@ -1,5 +1,5 @@
 -- How a chart begins: with the opened machine of its program, shape and fuel.
-use Rattle.std.proofs.Common.{◌≡◌, ℕ, ◌*◌, ◌≤◌, Bool, true, false, List, length, Option, refl, ap, subst, ◌∙◌, arith, mul-le-mul}
+use Rattle.std.proofs.Common.{◌≡◌, ℕ, ◌*◌, ◌≤◌, Bool, true, false, List, length, refl, ap, subst, ◌∙◌, arith, mul-le-mul}
 use Rattle.phase_barrier.specs.Barrier.{all_arrived}
 use Rattle.machine_rules.specs.Flight.{bit}
 use Rattle.machine_rules.specs.Sound.{rounds}

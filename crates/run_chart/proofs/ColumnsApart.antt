@@ -1,5 +1,5 @@
 -- Actors that have a column have different ones.
-use Rattle.std.proofs.Common.{◌≡◌, ℕ, zero, suc, ◌+◌, ◌*◌, ◌<◌, ◌≤◌, ◌==◌, ◌&&◌, Bool, true, false, cond, nat_lt, List, refl, ap, ◌∙◌, arith}
+use Rattle.std.proofs.Common.{◌≡◌, ◌≢◌, ℕ, zero, suc, ◌+◌, ◌*◌, ◌<◌, ◌≤◌, ◌==◌, ◌&&◌, Bool, true, false, cond, nat_lt, List, refl, sym, ap, ◌∙◌, arith}
 use Rattle.std.specs.Prelude.{count_by}
 use Rattle.std.specs.List.{range_with_len}
 use Rattle.std.proofs.lemmas.Bool.Decides.{nat_tests}
@@ -9,7 +9,7 @@ use Rattle.dn_base.specs.declared.ids.BankId.{BankId}
 use Rattle.message_net.specs.declared.actor.Actor.{Actor}
 use Rattle.message_net.specs.declared.actor.Actor.TheVariants.{Core, Bank, Keeper}
 use Rattle.run_chart.specs.declared.parts.Chart.{Chart}
-use Rattle.run_chart.specs.Places.{is_shown, shown_below, column, HasColumn}
+use Rattle.run_chart.specs.Places.{is_shown, place_of, shown_below, column, HasColumn, IsShownAt}
 
 module _ (shown : List Bool) (b d : ℕ) where
   abbrev bit : Bool → ℕ
@@ -58,8 +58,19 @@ module _ (shown : List Bool) (b d : ℕ) where
         let more : from + 1 ≤ b = grind (arith, nat_tests, least) in
         omega (arith, low, high, fewer less from, rest more)
 
-  pub below-less : b < d → b < 16 → is_shown shown b ≡ true → shown_below shown b < shown_below shown d
-  below-less less within has = omega (arith, one-more less has 16 0 (omega arith) (omega (arith, within)))
+  pub below-less : b < d → b < 32 → is_shown shown b ≡ true → shown_below shown b < shown_below shown d
+  below-less less within has = omega (arith, one-more less has 32 0 (omega arith) (omega (arith, within)))
+
+-- no other index has as many shown ones below it as one that is shown
+below-apart : (shown : List Bool) (i j : ℕ) → IsShownAt shown i → i < j → shown_below shown i ≢ shown_below shown j
+below-apart shown i j has less same = omega (arith, same, below-less shown i j less has.0 has.1)
+
+below-same : (shown : List Bool) (i j : ℕ) → IsShownAt shown i → IsShownAt shown j → shown_below shown i ≡ shown_below shown j → i ≡ j
+below-same shown i j has has' same = by_test (nat_lt i j) refl (nat_lt j i) refl where
+  by_test : (s : Bool) → nat_lt i j ≡ s → (t : Bool) → nat_lt j i ≡ t → i ≡ j
+  by_test true e t f = absurd (below-apart shown i j has (grind (arith, nat_tests, e)) same)
+  by_test false e true f = absurd (below-apart shown j i has' (grind (arith, nat_tests, f)) (sym same))
+  by_test false e false f = grind (arith, nat_tests, e, f)
 
 same-place : (x y : ℕ) → 300 + 132 * x ≡ 300 + 132 * y → x ≡ y
 same-place x y same = omega (arith, same)
@@ -71,31 +82,14 @@ same-bank : (c d : BankId) → c.0 ≡ d.0 → Bank c ≡ Bank d
 same-bank c d same = ap (λ (n : ℕ). Bank (record { 0 = n })) same
 
 pub same-actor : (chart : Chart) (a b : Actor) → HasColumn chart a → HasColumn chart b → column chart a ≡ column chart b → a ≡ b
-same-actor chart (Core c) (Core d) has has' same = same-core c d (same-place c.0 d.0 same)
-same-actor chart (Core c) (Bank d) has has' same = absurd (omega (arith, has, same-place c.0 (chart.shape.cores + shown_below chart.shown d.0) same))
-same-actor chart (Core c) Keeper has has' same = absurd (omega (arith, has, same-place c.0 (chart.shape.cores + shown_below chart.shown 16) same))
-same-actor chart (Bank c) (Core d) has has' same = absurd (omega (arith, has', same-place (chart.shape.cores + shown_below chart.shown c.0) d.0 same))
-same-actor chart (Bank c) (Bank d) has has' same = same-bank c d (by_test (nat_lt c.0 d.0) refl (nat_lt d.0 c.0) refl) where
-  counts-same : shown_below chart.shown c.0 ≡ shown_below chart.shown d.0
-  counts-same = omega (arith, same-place (chart.shape.cores + shown_below chart.shown c.0) (chart.shape.cores + shown_below chart.shown d.0) same)
-
-  by_test : (s : Bool) → nat_lt c.0 d.0 ≡ s → (t : Bool) → nat_lt d.0 c.0 ≡ t → c.0 ≡ d.0
-  by_test true e t f = absurd (omega (arith, counts-same, below-less chart.shown c.0 d.0 (grind (arith, nat_tests, e)) has.0 has.1))
-  by_test false e true f = absurd (omega (arith, counts-same, below-less chart.shown d.0 c.0 (grind (arith, nat_tests, f)) has'.0 has'.1))
-  by_test false e false f = grind (arith, nat_tests, e, f)
-same-actor chart (Bank c) Keeper has has' same =
-    absurd
-    (omega (
-      arith,
-      below-less chart.shown c.0 16 has.0 has.0 has.1,
-      same-place (chart.shape.cores + shown_below chart.shown c.0) (chart.shape.cores + shown_below chart.shown 16) same,
-    ))
-same-actor chart Keeper (Core d) has has' same = absurd (omega (arith, has', same-place (chart.shape.cores + shown_below chart.shown 16) d.0 same))
-same-actor chart Keeper (Bank d) has has' same =
-    absurd
-    (omega (
-      arith,
-      below-less chart.shown d.0 16 has'.0 has'.0 has'.1,
-      same-place (chart.shape.cores + shown_below chart.shown 16) (chart.shape.cores + shown_below chart.shown d.0) same,
-    ))
-same-actor chart Keeper Keeper has has' same = refl
+same-actor chart a b has has' same = by_actors a b has has' (same-place (place_of chart a) (place_of chart b) same) where
+  by_actors : (a b : Actor) → HasColumn chart a → HasColumn chart b → place_of chart a ≡ place_of chart b → a ≡ b
+  by_actors (Core c) (Core d) has has' same = same-core c d (below-same chart.shown c.0 d.0 has.1 has'.1 same)
+  by_actors (Core c) (Bank d) has has' same = absurd (below-apart chart.shown c.0 (chart.shape.cores + d.0) has.1 (omega (arith, has.0)) same)
+  by_actors (Core c) Keeper has has' same = absurd (below-apart chart.shown c.0 (chart.shape.cores + chart.shape.banks) has.1 (omega (arith, has.0)) same)
+  by_actors (Bank c) (Core d) has has' same = absurd (below-apart chart.shown d.0 (chart.shape.cores + c.0) has'.1 (omega (arith, has'.0)) (sym same))
+  by_actors (Bank c) (Bank d) has has' same = same-bank c d (omega (arith, below-same chart.shown (chart.shape.cores + c.0) (chart.shape.cores + d.0) has.1 has'.1 same))
+  by_actors (Bank c) Keeper has has' same = absurd (below-apart chart.shown (chart.shape.cores + c.0) (chart.shape.cores + chart.shape.banks) has.1 (omega (arith, has.0)) same)
+  by_actors Keeper (Core d) has has' same = absurd (below-apart chart.shown d.0 (chart.shape.cores + chart.shape.banks) has'.1 (omega (arith, has'.0)) (sym same))
+  by_actors Keeper (Bank d) has has' same = absurd (below-apart chart.shown (chart.shape.cores + d.0) (chart.shape.cores + chart.shape.banks) has'.1 (omega (arith, has'.0)) (sym same))
+  by_actors Keeper Keeper has has' same = refl

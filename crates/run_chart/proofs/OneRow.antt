@@ -50,7 +50,7 @@ changes-are S sent e look good seen =
 row-is : (S : State) (sent : List SentMail) (e : Event) (look : Look) (number line : ℕ) (mark : Bool) (m : Made) → m.state ≡ S → IsMachine S → IsLookBefore S sent e look
     → row_with S e look number line mark ≡ row_by m sent e number line mark
 row-is S sent e look number line mark m same good seen =
-    rw (changes-are S sent e look good seen, seen.actor, seen.about, seen.phase, seen.mail, seen.end, same) refl
+    rw (changes-are S sent e look good seen, seen.actor, seen.about, seen.need, seen.phase, seen.mail, seen.end, same) refl
 
 module _ (d : Drawing) (e : Event) (look : Look) (n : Made) (row : ChartRow) (mark : Bool) where
   is-next : (chain : List ℕ) → IsMachine d.machine.state → AreNotedFor d.sent d.machine.state.mails → IsLookBefore d.machine.state d.sent e look → HasRow d.machine n e look d.event d.line mark row

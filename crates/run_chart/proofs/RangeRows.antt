@@ -124,6 +124,13 @@ module _ (chain : List ℕ) where
       let all = drawn-stacked (length (before range events)) (inside range events) (led_to m (before range events)) in
       (subst (λ (rows : List ChartRow). AreStacked rows all.0) (sym (chart-rows frame (drawn m range chain events))) all.1).apart
 
+-- each begins below those before it, since a row has a line at least
+pub below-rows : (chain : List ℕ) (C : Setting) (events : List Event) (range : Range) (columns : Columns) (i j : ℕ) (a b : ChartRow) → i < j → slice_get (chart_of C events range chain columns).rows i ≡ Some a
+    → slice_get (chart_of C events range chain columns).rows j ≡ Some b → a.line < b.line
+below-rows chain C events range columns i j a b less here there =
+    let tall : 1 ≤ a.lines = chart-have chain (λ row. 1 ≤ row.lines) (λ d e. omega arith) C events range columns i a here in
+    omega (arith, tall, apart-rows chain C events range columns i j a b less here there)
+
 -- ---- their numbers
 
 module _ (chain : List ℕ) where

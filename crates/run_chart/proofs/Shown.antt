@@ -1,5 +1,5 @@
 -- The arrows of the whole chart, and which actors have a column in it.
-use Rattle.std.proofs.Common.{◌≡◌, ℕ, zero, suc, ◌+◌, ◌<◌, ◌≤◌, ◌==◌, ◌||◌, Bool, true, false, cond, List, [], ◌∷◌, ◌++◌, length, take, slice_get, Option, Some, None, refl, sym, ap, subst, ◌∙◌, arith}
+use Rattle.std.proofs.Common.{◌≡◌, ℕ, zero, suc, ◌+◌, ◌-◌, ◌<◌, ◌≤◌, ◌==◌, ◌||◌, Bool, true, false, cond, nat_lt, List, [], ◌∷◌, ◌++◌, length, take, slice_get, Option, Some, None, refl, sym, ap, subst, ◌∙◌, arith}
 use Rattle.std.specs.List.{list_any}
 use Rattle.std.proofs.Math.Seq.{take-append_seam}
 use Rattle.std.proofs.lemmas.Bool.{eqb-true}
@@ -8,6 +8,8 @@ use Rattle.std.proofs.lemmas.List.{length-take}
 use Rattle.std.proofs.lemmas.List.Folds.{list_any_at}
 use Rattle.std.proofs.lemmas.List.FromFn.{get_or-map-range_with_len, length-map-range_with_len}
 use Rattle.std.proofs.lemmas.Option.{none-some, same_Some, slice_get_within, slice_get-get_or, get_or_from_slice_get}
+use Rattle.dn_base.specs.declared.ids.BankId.{BankId}
+use Rattle.dn_base.specs.declared.ids.CoreId.{CoreId}
 use Rattle.dn_base.specs.declared.ids.LockId.{LockId}
 use Rattle.dn_base.specs.declared.ids.Shape.{Shape}
 use Rattle.message_net.specs.declared.actor.Actor.{Actor}
@@ -16,16 +18,19 @@ use Rattle.message_net.specs.declared.actor.MailId.{MailId}
 use Rattle.message_net.specs.declared.event.Event.{Event}
 use Rattle.message_net.specs.declared.event.Event.TheVariants.{Handle}
 use Rattle.message_net.specs.declared.message.Mail.{Mail}
+use Rattle.message_net.specs.Id.{same_actor}
 use Rattle.message_net.specs.Mail.{has_actor}
 use Rattle.message_net.specs.Pool.{of_id, count_of, removed, AreDistinct, IsFound}
-use Rattle.message_net.proofs.PoolLemmas.{found-counted, taken-of_id, place-counted, same_id-refl}
+use Rattle.message_net.proofs.PoolLemmas.{found-counted, taken-of_id, place-counted, same_actor-refl, same_id-refl}
 use Rattle.registration_protocol.specs.Node.{NodeParts, Setting}
 use Rattle.machine_rules.specs.State.{State, initial_state}
 use Rattle.machine_rules.specs.Next.{next, enabled}
 use Rattle.machine_rules.specs.Runs.{after, IsRun}
 use Rattle.machine_rules.specs.Sound.{IsReady, IsMachine}
+use Rattle.machine_rules.proofs.OpenedFacts.{opened-setting}
 use Rattle.machine_rules.proofs.RunsCoherent.{run-all}
 use Rattle.dn_machine.specs.Actors.{receiver_of, actor_in}
+use Rattle.dn_machine.proofs.LeftLemmas.{kept-left, left-first}
 use Rattle.run_timing.specs.Depends.{state_at, actor_at, actor_of_event, Sends}
 use Rattle.run_timing.proofs.Moves.{has}
 use Rattle.run_timing.proofs.OnRuns.{setting-at, there-at}
@@ -35,7 +40,7 @@ use Rattle.run_chart.specs.declared.parts.ChartRow.{ChartRow}
 use Rattle.run_chart.specs.declared.parts.LeavingMail.{LeavingMail}
 use Rattle.run_chart.specs.declared.parts.Origin.{Origin}
 use Rattle.run_chart.specs.declared.parts.WaitingTask.{WaitingTask}
-use Rattle.run_chart.specs.Places.{is_shown, shown_at, HasColumn}
+use Rattle.run_chart.specs.Places.{actor_with, is_shown, shown_at, HasColumn}
 use Rattle.run_chart.specs.declared.charting.Frame.{Frame}
 use Rattle.run_chart.specs.declared.drawing.Drawing.{Drawing}
 use Rattle.run_chart.specs.declared.drawing.Range.{Range}
@@ -43,8 +48,8 @@ use Rattle.run_chart.specs.declared.finishing.Columns.{Columns}
 use Rattle.run_chart.specs.declared.finishing.Columns.TheVariants.{All, Used}
 use Rattle.run_chart.specs.declared.mails.SentMail.{SentMail}
 use Rattle.run_chart.specs.Arrows.{line_of_event, AllLeave, ComesFromSender, TellsSender, LeavesFromSender, LeavesRange, end_of_range}
-use Rattle.run_chart.specs.Charts.{before, drawn, chart_in, chart_of, leaving_in, reaches_end, waiting_at}
-use Rattle.run_chart.specs.Finishing.{is_bank, leaves_for, uses_bank, has_column, shown_banks, leaving_mail, leaving_by, leaving_from, lock_wanted, waiting_by, waiting_from}
+use Rattle.run_chart.specs.Charts.{before, drawn, chart_in, chart_of, leaving_in, reaches_end, waiting_at, waiting_in}
+use Rattle.run_chart.specs.Finishing.{leaves_for, uses, waits, has_column, has_column_at, shown_actors, leaving_mail, leaving_by, leaving_from, lock_wanted, waiting_by, waiting_from}
 use Rattle.run_chart.specs.Mails.{noted_line}
 use Rattle.run_chart.proofs.Noted.{noted-here}
 use Rattle.run_chart.proofs.RangeRows.{run-first}
@@ -140,44 +145,73 @@ any-of : {X : Type 0} (test : X → Bool) (xs : List X) (i : ℕ) (x : X) → sl
 any-of test xs i x here passes =
     list_any_at test xs i x (slice_get_within xs i x here) (ap test (get_or_from_slice_get xs i x x here) ∙ passes)
 
-module _ (columns : Columns) (rows : List ChartRow) (leaving : List LeavingMail) where
-  shown-is : (banks bank : ℕ) → bank < banks → is_shown (shown_banks columns rows leaving banks) bank ≡ has_column columns rows leaving bank
-  shown-is banks bank less =
+module _ (columns : Columns) (rows : List ChartRow) (leaving : List LeavingMail) (tasks : List WaitingTask) where
+  pub shown-is : (shape : Shape) (index : ℕ) → index < shape.cores + shape.banks → is_shown (shown_actors columns rows leaving tasks shape) index ≡ has_column columns rows leaving tasks (actor_with shape index)
+  shown-is shape index less =
       ap shown_at
-      (slice_get-get_or (shown_banks columns rows leaving banks) bank false (omega (arith, less, length-map-range_with_len (has_column columns rows leaving) 0 banks)))
-      ∙ get_or-map-range_with_len (has_column columns rows leaving) 0 banks bank bank false less (omega arith)
+      (slice_get-get_or (shown_actors columns rows leaving tasks shape) index false
+      (omega (arith, less, length-map-range_with_len (has_column_at columns rows leaving tasks shape) 0 (shape.cores + shape.banks))))
+      ∙ get_or-map-range_with_len (has_column_at columns rows leaving tasks shape) 0 (shape.cores + shape.banks) index index false less (omega arith)
 
-  used-by-row : (bank i : ℕ) (row : ChartRow) → slice_get rows i ≡ Some row → uses_bank bank row ≡ true → has_column columns rows leaving bank ≡ true
-  used-by-row bank i row here uses = by_columns columns where
-    any : list_any (uses_bank bank) rows ≡ true
-    any = any-of (uses_bank bank) rows i row here uses
+  pub used-by-row : (a : Actor) (i : ℕ) (row : ChartRow) → slice_get rows i ≡ Some row → uses a row ≡ true → has_column columns rows leaving tasks a ≡ true
+  used-by-row a i row here used = by_columns columns where
+    any : list_any (uses a) rows ≡ true
+    any = any-of (uses a) rows i row here used
 
-    by_columns : (c : Columns) → has_column c rows leaving bank ≡ true
+    by_columns : (c : Columns) → has_column c rows leaving tasks a ≡ true
     by_columns All = refl
     by_columns Used = rw any refl
 
-  used-by-mail : (bank i : ℕ) (mail : LeavingMail) → slice_get leaving i ≡ Some mail → leaves_for bank mail ≡ true → has_column columns rows leaving bank ≡ true
-  used-by-mail bank i mail here uses = by_columns columns where
-    any : list_any (leaves_for bank) leaving ≡ true
-    any = any-of (leaves_for bank) leaving i mail here uses
+  pub used-by-mail : (a : Actor) (i : ℕ) (mail : LeavingMail) → slice_get leaving i ≡ Some mail → leaves_for a mail ≡ true → has_column columns rows leaving tasks a ≡ true
+  used-by-mail a i mail here used = by_columns columns where
+    any : list_any (leaves_for a) leaving ≡ true
+    any = any-of (leaves_for a) leaving i mail here used
 
-    by_columns : (c : Columns) → has_column c rows leaving bank ≡ true
+    by_columns : (c : Columns) → has_column c rows leaving tasks a ≡ true
     by_columns All = refl
-    by_columns Used = by_rows (list_any (uses_bank bank) rows) where
-      by_rows : (b : Bool) → (b || list_any (leaves_for bank) leaving) ≡ true
+    by_columns Used = by_rows (list_any (uses a) rows) where
+      by_rows : (b : Bool) → (b || (list_any (leaves_for a) leaving || list_any (waits a) tasks)) ≡ true
       by_rows true = refl
-      by_rows false = any
+      by_rows false = rw any refl
 
-column-there : (chart : Chart) (banks : ℕ) (a : Actor) → banks ≤ 16 → has_actor chart.shape.cores banks a ≡ true → ((bank : ℕ) → bank < banks → is_bank bank a ≡ true → is_shown chart.shown bank ≡ true)
-    → HasColumn chart a
-column-there chart banks (Core core) most there shown = grind (arith, nat_tests, there)
-column-there chart banks (Bank bank) most there shown =
-    let less : bank.0 < banks = grind (arith, nat_tests, there) in
-    (omega (arith, less, most), shown bank.0 less (grind (arith, nat_tests)))
-column-there chart banks Keeper most there shown = tt
+  pub used-by-task : (a : Actor) (i : ℕ) (task : WaitingTask) → slice_get tasks i ≡ Some task → waits a task ≡ true → has_column columns rows leaving tasks a ≡ true
+  used-by-task a i task here used = by_columns columns where
+    any : list_any (waits a) tasks ≡ true
+    any = any-of (waits a) tasks i task here used
+
+    by_columns : (c : Columns) → has_column c rows leaving tasks a ≡ true
+    by_columns All = refl
+    by_columns Used = by_others (list_any (uses a) rows) (list_any (leaves_for a) leaving) where
+      by_others : (b d : Bool) → (b || (d || list_any (waits a) tasks)) ≡ true
+      by_others true d = refl
+      by_others false true = refl
+      by_others false false = any
+
+-- the index of a core and of a bank gives it back
+pub core-at : (shape : Shape) (core : CoreId) → core.0 < shape.cores → actor_with shape core.0 ≡ Core core
+core-at shape core less =
+    let is : nat_lt core.0 shape.cores ≡ true = grind (arith, nat_tests, less) in
+    rw is refl
+
+pub bank-at : (shape : Shape) (bank : BankId) → bank.0 < shape.banks → actor_with shape (shape.cores + bank.0) ≡ Bank bank
+bank-at shape bank less =
+    let no_core : nat_lt (shape.cores + bank.0) shape.cores ≡ false = grind (arith, nat_tests) in
+    let is : nat_lt (shape.cores + bank.0) (shape.cores + shape.banks) ≡ true = grind (arith, nat_tests, less) in
+    let number : shape.cores + bank.0 - shape.cores ≡ bank.0 = omega arith in
+    rw (no_core, is, number) refl
+
+column-there : (chart : Chart) (a : Actor) → chart.shape.cores ≤ 16 → chart.shape.banks ≤ 16 → has_actor chart.shape.cores chart.shape.banks a ≡ true
+    → ((index : ℕ) → index < chart.shape.cores + chart.shape.banks → actor_with chart.shape index ≡ a → is_shown chart.shown index ≡ true) → HasColumn chart a
+column-there chart (Core core) cores banks there shown =
+    let less : core.0 < chart.shape.cores = grind (arith, nat_tests, there) in
+    (less, (omega (arith, less, cores), shown core.0 (omega (arith, less)) (core-at chart.shape core less)))
+column-there chart (Bank bank) cores banks there shown =
+    let less : bank.0 < chart.shape.banks = grind (arith, nat_tests, there) in
+    (less, (omega (arith, less, cores, banks), shown (chart.shape.cores + bank.0) (omega (arith, less)) (bank-at chart.shape bank less)))
+column-there chart Keeper cores banks there shown = tt
 
 -- the row of an event that has a line
-row-of-line : (event line : ℕ) (rows : List ChartRow) → line_of_event event rows ≡ Some line → (i : ℕ) × (row : ChartRow) × (slice_get rows i ≡ Some row) × (row.event ≡ event)
+pub row-of-line : (event line : ℕ) (rows : List ChartRow) → line_of_event event rows ≡ Some line → (i : ℕ) × (row : ChartRow) × (slice_get rows i ≡ Some row) × (row.event ≡ event)
 row-of-line event line [] is = absurd (none-some line is)
 row-of-line event line (r ∷ rs) is = by_test (r.event == event) refl (row-of-line event line rs) is where
   later : (i : ℕ) × (row : ChartRow) × (slice_get rs i ≡ Some row) × (row.event ≡ event) → (i : ℕ) × (row : ChartRow) × (slice_get (r ∷ rs) i ≡ Some row) × (row.event ≡ event)
@@ -301,29 +335,43 @@ module _ (C : Setting) (events : List Event) (ready : IsReady C) (run : IsRun (i
     abbrev chart : Chart
     chart = chart_in frame (Some d)
 
-    column-of : (a : Actor) → has C a ≡ true → ((bank : ℕ) → is_bank bank a ≡ true → has_column frame.columns d.rows (leaving_in d) bank ≡ true) → HasColumn chart a
+    few-cores : frame.shape.cores ≤ 16
+    few-cores =
+        subst (λ (s : Shape). s.cores ≤ 16) (sym shape)
+        (subst (λ (X : Setting). X.shape.cores ≤ 16) (opened-setting C) (kept-left (initial_state C) 0 (left-first C ready)).most)
+
+    few-banks : frame.shape.banks ≤ 16
+    few-banks = subst (λ (s : Shape). s.banks ≤ 16) (sym shape) ready.context.most_banks
+
+    column-of : (a : Actor) → has C a ≡ true → has_column frame.columns d.rows (leaving_in d) (waiting_in frame.range frame.events d) a ≡ true → HasColumn chart a
     column-of a there used =
-        column-there chart C.shape.banks a ready.context.most_banks (subst (λ (s : Shape). has_actor s.cores C.shape.banks a ≡ true) (sym shape) there)
-        (λ bank less is. shown-is frame.columns d.rows (leaving_in d) frame.shape.banks bank (subst (λ (s : Shape). bank < s.banks) (sym shape) less) ∙ used bank is)
+        column-there chart a few-cores few-banks (subst (λ (s : Shape). has_actor s.cores s.banks a ≡ true) (sym shape) there)
+        (λ index less is.
+        shown-is frame.columns d.rows (leaving_in d) (waiting_in frame.range frame.events d) frame.shape index less
+        ∙ ap (has_column frame.columns d.rows (leaving_in d) (waiting_in frame.range frame.events d)) is ∙ used)
 
     row-column : (i : ℕ) (row : ChartRow) → slice_get d.rows i ≡ Some row → HasColumn chart row.actor
     row-column i row here =
-        column-of row.actor (actor-there row.event row.actor (to.acts i row here)) (λ bank is. used-by-row frame.columns d.rows (leaving_in d) bank i row here (rw is refl))
+        column-of row.actor (actor-there row.event row.actor (to.acts i row here))
+        (used-by-row frame.columns d.rows (leaving_in d) (waiting_in frame.range frame.events d) row.actor i row here (rw (same_actor-refl row.actor) refl))
 
     mail-column : (i : ℕ) (row : ChartRow) (mail : Origin) → slice_get d.rows i ≡ Some row → row.mail ≡ Some mail → HasColumn chart mail.sender
-    mail-column i row mail here is = column-of mail.sender (actor-there tells.event mail.sender tells.actor) (λ bank b. used-by-row frame.columns d.rows (leaving_in d) bank i row here (uses bank b)) where
-      tells : ComesFromSender (initial_state C) events d.rows row mail
-      tells = subst (λ (o : Option Origin). TellsSender (initial_state C) events d.rows row o) is (to.tells i row here)
+    mail-column i row mail here is =
+        column-of mail.sender (actor-there tells.event mail.sender tells.actor)
+        (used-by-row frame.columns d.rows (leaving_in d) (waiting_in frame.range frame.events d) mail.sender i row here used)
+      where
+        tells : ComesFromSender (initial_state C) events d.rows row mail
+        tells = subst (λ (o : Option Origin). TellsSender (initial_state C) events d.rows row o) is (to.tells i row here)
 
-      either : (b : Bool) → (b || true) ≡ true
-      either true = refl
-      either false = refl
+        either : (b : Bool) → (b || true) ≡ true
+        either true = refl
+        either false = refl
 
-      uses : (bank : ℕ) → is_bank bank mail.sender ≡ true → uses_bank bank row ≡ true
-      uses bank b = rw (is, b) (either (is_bank bank row.actor))
+        used : uses mail.sender row ≡ true
+        used = rw (is, same_actor-refl mail.sender) (either (same_actor mail.sender row.actor))
 
     leaving-columns : (i : ℕ) (mail : LeavingMail) → slice_get (leaving_in d) i ≡ Some mail → HasColumn chart mail.sender × HasColumn chart mail.to
-    leaving-columns i mail here = (subst (λ (a : Actor). HasColumn chart a) same (row-column row.0 row.1 row.2), column-of mail.to there (λ bank b. used-by-mail frame.columns d.rows (leaving_in d) bank i mail here b)) where
+    leaving-columns i mail here = (subst (λ (a : Actor). HasColumn chart a) same (row-column row.0 row.1 row.2), column-of mail.to there (used-by-mail frame.columns d.rows (leaving_in d) (waiting_in frame.range frame.events d) mail.to i mail here (same_actor-refl mail.to))) where
       left : LeavesFromSender (initial_state C) events d.rows n mail
       left = left-mail i mail here
 
@@ -341,14 +389,20 @@ module _ (C : Setting) (events : List Event) (ready : IsReady C) (run : IsRun (i
         before : left.0 < n
         before = subst (λ (k : ℕ). k < n) row.3 (to.below row.0 row.1 row.2)
 
-    waiting-column : (is_end : Bool) (line i : ℕ) (task : WaitingTask) → slice_get (waiting_at is_end line d.machine.state) i ≡ Some task → HasColumn chart (Core task.core)
-    waiting-column false line i task here = absurd (none-some task here)
-    waiting-column true line i task here =
+    waiting-core : (is_end : Bool) (line i : ℕ) (task : WaitingTask) → slice_get (waiting_at is_end line d.machine.state) i ≡ Some task → has C (Core task.core) ≡ true
+    waiting-core false line i task here = absurd (none-some task here)
+    waiting-core true line i task here =
         let at = waiting-there line d.machine.state.nodes i task here in
         let node : slice_get (state_at (initial_state C) events n).nodes at.0 ≡ Some at.1 = subst (λ (S : State). slice_get S.nodes at.0 ≡ Some at.1) to.state at.2 in
         let good = machine-at n in
-        let cores : (state_at (initial_state C) events n).setting.shape.cores ≡ frame.shape.cores = ap (λ (X : Setting). X.shape.cores) (setting-at C events n) ∙ ap (λ (s : Shape). s.cores) (sym shape) in
-        omega (arith, at.3, (good.node at.0 at.1 node).core, slice_get_within (state_at (initial_state C) events n).nodes at.0 at.1 node, good.nodes, cores)
+        let cores : (state_at (initial_state C) events n).setting.shape.cores ≡ C.shape.cores = ap (λ (X : Setting). X.shape.cores) (setting-at C events n) in
+        let less : task.core.0 < C.shape.cores = omega (arith, at.3, (good.node at.0 at.1 node).core, slice_get_within (state_at (initial_state C) events n).nodes at.0 at.1 node, good.nodes, cores) in
+        grind (arith, nat_tests, less)
+
+    waiting-column : (i : ℕ) (task : WaitingTask) → slice_get (waiting_in frame.range frame.events d) i ≡ Some task → HasColumn chart (Core task.core)
+    waiting-column i task here =
+        column-of (Core task.core) (waiting-core (reaches_end frame.range frame.events) (d.line + length (leaving_in d)) i task here)
+        (used-by-task frame.columns d.rows (leaving_in d) (waiting_in frame.range frame.events d) (Core task.core) i task here (same_actor-refl (Core task.core)))
 
   -- ---- the chart
 
@@ -379,6 +433,10 @@ module _ (C : Setting) (events : List Event) (ready : IsReady C) (run : IsRun (i
         (mail-left (end_of_range range events) all.0 whole all.2 refl range.first
         (λ p past less. all.3 p (omega (arith, past, length-take range.first events)) less))
 
+    pub rows-act : (i : ℕ) (row : ChartRow) → slice_get (chart_of C events range chain columns).rows i ≡ Some row → actor_at (initial_state C) events row.event ≡ Some row.actor
+    rows-act =
+        subst (λ (c : Chart). (i : ℕ) (row : ChartRow) → slice_get c.rows i ≡ Some row → actor_at (initial_state C) events row.event ≡ Some row.actor) (sym same) all.2.acts
+
     pub rows-shown : (i : ℕ) (row : ChartRow) → slice_get (chart_of C events range chain columns).rows i ≡ Some row → HasColumn (chart_of C events range chain columns) row.actor
     rows-shown =
         subst (λ (c : Chart). (i : ℕ) (row : ChartRow) → slice_get c.rows i ≡ Some row → HasColumn c row.actor) (sym same) (row-column (end_of_range range events) all.0 whole all.2 refl)
@@ -398,4 +456,4 @@ module _ (C : Setting) (events : List Event) (ready : IsReady C) (run : IsRun (i
     pub waiting-shown : (i : ℕ) (task : WaitingTask) → slice_get (chart_of C events range chain columns).waiting i ≡ Some task → HasColumn (chart_of C events range chain columns) (Core task.core)
     waiting-shown =
         subst (λ (c : Chart). (i : ℕ) (task : WaitingTask) → slice_get c.waiting i ≡ Some task → HasColumn c (Core task.core)) (sym same)
-        (waiting-column (end_of_range range events) all.0 whole all.2 refl (reaches_end range (length events)) (all.0.line + length (leaving_in all.0)))
+        (waiting-column (end_of_range range events) all.0 whole all.2 refl)

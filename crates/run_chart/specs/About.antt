@@ -60,6 +60,15 @@ about_in S (Evict core word) = Word word
 about_in S (Arrive core) = Nothing
 about_in S (Handle id) = about_mail (removed id S.mails).0
 
+-- what the instruction needs that an event makes; None where the event is no instruction of a task
+abbrev pub node_needs : Setting → Option NodeParts → Option Need
+node_needs C None = None
+node_needs C (Some n) = need_now C n
+
+abbrev pub needed_by : State → Event → Option Need
+needed_by S (Instr core) = node_needs S.setting (slice_get S.nodes core.0)
+needed_by S _ = None
+
 -- a task ends with the instruction whose need is that it ends
 abbrev pub need_ends_by : Option Need → Option End
 need_ends_by (Some (need.TheVariants.End cause)) = Some cause

@@ -1,5 +1,5 @@
 -- The message chart of a range of a run's events.
-use Rattle.std.specs.Prelude.{◌≡◌, ℕ, ◌+◌, ◌≤◌, Bool, true, false, nat_le, List, [], length, take, drop, Option, Some, None}
+use Rattle.std.specs.Prelude.{◌≡◌, ℕ, ◌+◌, ◌-◌, ◌≤◌, Bool, true, false, nat_le, List, [], length, take, drop, slice_get, Option, Some, None}
 use Rattle.dn_base.specs.declared.ids.Shape.{Shape}
 use Rattle.region_table.specs.Program.{ProgramParts}
 use Rattle.message_net.specs.declared.event.Event.{Event}
@@ -9,6 +9,7 @@ use Rattle.dn_machine.specs.Kept.{Made}
 use Rattle.dn_machine.specs.Settings.{IsSettingOf}
 use Rattle.run_chart.specs.declared.parts.Chart.{Chart}
 use Rattle.run_chart.specs.declared.parts.ChartRow.{ChartRow}
+use Rattle.run_chart.specs.declared.parts.Fit.TheVariants.{Rows}
 use Rattle.run_chart.specs.declared.parts.LeavingMail.{LeavingMail}
 use Rattle.run_chart.specs.declared.parts.WaitingTask.{WaitingTask}
 use Rattle.run_chart.specs.declared.charting.Frame.{Frame}
@@ -17,7 +18,7 @@ use Rattle.run_chart.specs.declared.drawing.Range.{Range}
 use Rattle.run_chart.specs.declared.finishing.Columns.{Columns}
 use Rattle.run_chart.specs.Drawing.{led_to, begun, with_rows}
 use Rattle.run_chart.specs.Mails.{AreNotedFor}
-use Rattle.run_chart.specs.Finishing.{leaving_from, waiting_from, shown_banks}
+use Rattle.run_chart.specs.Finishing.{leaving_from, waiting_from, shown_actors}
 
 -- the events before a range, and those of it
 abbrev pub before : Range → List Event → List Event
@@ -44,6 +45,14 @@ abbrev pub waiting_at : Bool → ℕ → State → List WaitingTask
 waiting_at true line S = waiting_from line S.nodes
 waiting_at false line S = []
 
+-- the number of the last row's event, if there is one
+abbrev pub event_in : Option ChartRow → Option ℕ
+event_in None = None
+event_in (Some row) = Some row.event
+
+abbrev pub last_event : List ChartRow → Option ℕ
+last_event rows = event_in (slice_get rows (length rows - 1))
+
 -- the chart of these rows, which end before a line, mails and tasks
 abbrev pub chart_by : Frame → List ChartRow → List LeavingMail → List WaitingTask → ℕ → Chart
 chart_by frame rows leaving tasks line =
@@ -51,12 +60,15 @@ chart_by frame rows leaving tasks line =
       shape = frame.shape;
       fuel = frame.fuel;
       first = frame.range.first;
+      last = last_event rows;
       events = frame.events;
-      shown = shown_banks frame.columns rows leaving frame.shape.banks;
+      shown = shown_actors frame.columns rows leaving tasks frame.shape;
       rows = rows;
       leaving = leaving;
       waiting = tasks;
       lines = line + length leaving + length tasks;
+      note = [];
+      fit = Rows;
     }
 
 -- the chart of a drawing: after its rows come the mails that leave it, and then the tasks that wait

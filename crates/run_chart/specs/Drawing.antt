@@ -1,5 +1,6 @@
 -- How a chart is drawn, event by event.
-use Rattle.std.specs.Prelude.{◌≡◌, ℕ, ◌+◌, ◌*◌, ◌≤◌, Bool, true, false, List, [], ◌∷◌, ◌++◌, length, Option, Some, None, if◌then◌else◌}
+use Rattle.std.specs.Prelude.{◌≡◌, ℕ, ◌+◌, ◌*◌, ◌≤◌, ◌==◌, Bool, true, false, not, List, [], ◌∷◌, ◌++◌, length, Option, Some, None, if◌then◌else◌}
+use Rattle.dn_base.specs.declared.ids.PhaseId.{PhaseId}
 use Rattle.message_net.specs.declared.actor.Actor.{Actor}
 use Rattle.message_net.specs.declared.actor.Actor.TheVariants.{Keeper}
 use Rattle.message_net.specs.declared.event.Event.{Event}
@@ -17,7 +18,7 @@ use Rattle.run_chart.specs.declared.mails.SentMail.{SentMail}
 use Rattle.run_chart.specs.declared.words.HeldWord.{HeldWord}
 use Rattle.run_chart.specs.Mails.{noted_mails, origin_of, unknown_mails, place_handled, AreNotedFor}
 use Rattle.run_chart.specs.Marks.{is_on_chain}
-use Rattle.run_chart.specs.About.{about_in, ends_by}
+use Rattle.run_chart.specs.About.{about_in, ends_by, needed_by}
 use Rattle.run_chart.specs.Affected.{affected_by, is_affected, AreGathered}
 use Rattle.run_chart.specs.Words.{changes_in, changes_among, held_words, word_state}
 
@@ -37,6 +38,10 @@ event_maker S e = the_actor (actor_in S e)
 abbrev pub row_lines : Option End → List WordChange → ℕ
 row_lines end changes = 1 + end_lines end + length changes
 
+-- whether the barrier controller is in another phase than this one
+abbrev pub is_past : State → PhaseId → Bool
+is_past S phase = not (S.keeper.phase == phase.0)
+
 -- the row of event number `event`, from a line on, by the machine and the lines of the mails before it
 abbrev pub row_by : Made → List SentMail → Event → ℕ → ℕ → Bool → ChartRow
 row_by m sent e event line on_chain =
@@ -45,7 +50,9 @@ row_by m sent e event line on_chain =
       actor = event_maker m.state e;
       kind = kind_in m.state e;
       about = about_in m.state e;
+      need = needed_by m.state e;
       phase = record { 0 = m.state.keeper.phase };
+      ends_phase = is_past (next m.state e) (record { 0 = m.state.keeper.phase });
       line = line;
       lines = row_lines (ends_by m.state e) (changes_in m.state (next m.state e) (event_maker m.state e));
       mail = origin_of sent e;
@@ -104,6 +111,7 @@ pub record IsLookBefore (S : State) (sent : List SentMail) (e : Event) (look : L
   pub place : look.place ≡ place_handled S.mails e
   pub actor : look.actor ≡ event_maker S e
   pub about : look.about ≡ about_in S e
+  pub need : look.need ≡ needed_by S e
   pub phase : look.phase ≡ record { 0 = S.keeper.phase }
   pub mail : look.mail ≡ origin_of sent e
   pub end : look.end ≡ ends_by S e
@@ -117,7 +125,9 @@ row_with S e look event line on_chain =
       actor = look.actor;
       kind = kind_in S e;
       about = look.about;
+      need = look.need;
       phase = look.phase;
+      ends_phase = is_past (next S e) look.phase;
       line = line;
       lines = row_lines look.end (changes_among (word_state (next S e) look.actor) look.held);
       mail = look.mail;

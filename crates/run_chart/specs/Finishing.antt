@@ -1,10 +1,12 @@
--- What a chart has after its rows, and which banks have a column.
-use Rattle.std.specs.Prelude.{ℕ, ◌+◌, ◌==◌, ◌||◌, Bool, true, false, List, [], ◌∷◌, map, Option, Some, None}
+-- What a chart has after its rows, and which cores and banks have a column.
+use Rattle.std.specs.Prelude.{ℕ, ◌+◌, ◌||◌, Bool, true, false, List, [], ◌∷◌, map, Option, Some, None}
 use Rattle.std.specs.List.{list_any, range_with_len}
 use Rattle.dn_base.specs.declared.ids.LockId.{LockId}
+use Rattle.dn_base.specs.declared.ids.Shape.{Shape}
 use Rattle.message_net.specs.declared.actor.Actor.{Actor}
-use Rattle.message_net.specs.declared.actor.Actor.TheVariants.{Bank}
+use Rattle.message_net.specs.declared.actor.Actor.TheVariants.{Core}
 use Rattle.message_net.specs.declared.message.Mail.{Mail}
+use Rattle.message_net.specs.Id.{same_actor}
 use Rattle.message_net.specs.Kind.{kind_of}
 use Rattle.registration_protocol.specs.declared.node.NodeWait as wait
 use Rattle.registration_protocol.specs.declared.node.NodeWait.{NodeWait}
@@ -17,6 +19,7 @@ use Rattle.run_chart.specs.declared.finishing.Columns.{Columns}
 use Rattle.run_chart.specs.declared.finishing.Columns.TheVariants.{All, Used}
 use Rattle.run_chart.specs.declared.mails.SentMail.{SentMail}
 use Rattle.run_chart.specs.About.{about_message}
+use Rattle.run_chart.specs.Places.{actor_with}
 
 -- a mail in flight that was sent on a line, on a line of its own
 abbrev pub leaving_mail : Mail → ℕ → ℕ → LeavingMail
@@ -47,26 +50,30 @@ abbrev pub waiting_from : ℕ → List NodeParts → List WaitingTask
 waiting_from line [] = []
 waiting_from line (n ∷ ns) = waiting_by line n (lock_wanted n.waiting) (λ next. waiting_from next ns)
 
--- whether an actor is a bank, and whether a mail comes from it or goes to it
-abbrev pub is_bank : ℕ → Actor → Bool
-is_bank bank (Bank other) = other.0 == bank
-is_bank bank _ = false
+-- whether a mail comes from an actor or goes to it
+abbrev pub comes_from : Actor → Option Origin → Bool
+comes_from actor None = false
+comes_from actor (Some mail) = same_actor actor mail.sender
 
-abbrev pub comes_from : ℕ → Option Origin → Bool
-comes_from bank None = false
-comes_from bank (Some mail) = is_bank bank mail.sender
+abbrev pub leaves_for : Actor → LeavingMail → Bool
+leaves_for actor mail = same_actor actor mail.to
 
-abbrev pub leaves_for : ℕ → LeavingMail → Bool
-leaves_for bank mail = is_bank bank mail.to
+-- whether a task that waits is an actor's
+abbrev pub waits : Actor → WaitingTask → Bool
+waits actor task = same_actor actor (Core task.core)
 
--- whether a row is about an event of a bank, or the handling of a mail that comes from it
-abbrev pub uses_bank : ℕ → ChartRow → Bool
-uses_bank bank row = is_bank bank row.actor || comes_from bank row.mail
+-- whether a row is about an event of an actor, or the handling of a mail that comes from it
+abbrev pub uses : Actor → ChartRow → Bool
+uses actor row = same_actor actor row.actor || comes_from actor row.mail
 
--- whether a bank has a column: it does something in the chart, or all banks have one
-abbrev pub has_column : Columns → List ChartRow → List LeavingMail → ℕ → Bool
-has_column All rows leaving bank = true
-has_column Used rows leaving bank = list_any (uses_bank bank) rows || list_any (leaves_for bank) leaving
+-- whether a core or bank has a column: it has something to do in the chart, or all have one
+abbrev pub has_column : Columns → List ChartRow → List LeavingMail → List WaitingTask → Actor → Bool
+has_column All rows leaving tasks actor = true
+has_column Used rows leaving tasks actor = list_any (uses actor) rows || (list_any (leaves_for actor) leaving || list_any (waits actor) tasks)
 
-abbrev pub shown_banks : Columns → List ChartRow → List LeavingMail → ℕ → List Bool
-shown_banks columns rows leaving banks = map (has_column columns rows leaving) (range_with_len 0 banks)
+abbrev pub has_column_at : Columns → List ChartRow → List LeavingMail → List WaitingTask → Shape → ℕ → Bool
+has_column_at columns rows leaving tasks shape index = has_column columns rows leaving tasks (actor_with shape index)
+
+-- which cores and banks have one, by their indices
+abbrev pub shown_actors : Columns → List ChartRow → List LeavingMail → List WaitingTask → Shape → List Bool
+shown_actors columns rows leaving tasks shape = map (has_column_at columns rows leaving tasks shape) (range_with_len 0 (shape.cores + shape.banks))

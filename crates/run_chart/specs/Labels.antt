@@ -1,5 +1,5 @@
 -- The words of a chart.
-use Rattle.std.specs.Prelude.{ℕ, ◌-◌, List, ◌++◌, codes, length, slice_get, Option, Some, None}
+use Rattle.std.specs.Prelude.{ℕ, List, ◌++◌, codes, slice_get, Option, Some, None}
 use Rattle.std.specs.Fmt.{decimal}
 use Rattle.text_pieces.specs.Pieces.{space, hexadecimal}
 use Rattle.dn_base.specs.declared.ids.Shape.{Shape}
@@ -17,7 +17,6 @@ use Rattle.text_places.specs.Texts.{word_text, lock_text, code_text}
 use Rattle.run_chart.specs.declared.parts.About.{About}
 use Rattle.run_chart.specs.declared.parts.About.TheVariants as about
 use Rattle.run_chart.specs.declared.parts.Chart.{Chart}
-use Rattle.run_chart.specs.declared.parts.ChartRow.{ChartRow}
 use Rattle.run_chart.specs.declared.states.WordState.{WordState}
 use Rattle.run_chart.specs.declared.states.WordState.TheVariants.{Absent, Valid, Touched, Registered, Pending, Leaving, Home, At}
 use Rattle.run_chart.specs.declared.states.WordChange.{WordChange}
@@ -84,16 +83,16 @@ no_event = codes "no event of "
 unfoldable pub empty_text : ℕ → List ℕ
 empty_text events = no_event ++ decimal events
 
--- by the last row, if there is one
-abbrev pub events_text : ℕ → Option ChartRow → ℕ → List ℕ
+-- by the last event of the range, if there is one
+abbrev pub events_text : ℕ → Option ℕ → ℕ → List ℕ
 events_text first None events = empty_text events
-events_text first (Some last) events = numbers_text first last.event events
+events_text first (Some last) events = numbers_text first last events
 
 unfoldable pub title_begin : List ℕ
 title_begin = codes "Message chart: "
 
 unfoldable pub title_text : Chart → List ℕ
-title_text chart = title_begin ++ events_text chart.first (slice_get chart.rows (length chart.rows - 1)) chart.events
+title_text chart = title_begin ++ events_text chart.first chart.last chart.events ++ chart.note
 
 -- the size of the machine
 unfoldable pub machine_begin : List ℕ

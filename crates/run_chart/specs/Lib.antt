@@ -2,9 +2,11 @@ pub mod About
 pub mod Affected
 pub mod Arrows
 pub mod Charts
+pub mod Choosing
 pub mod Drawing
 pub mod Elements
 pub mod Finishing
+pub mod Keeping
 pub mod Labels
 pub mod Mails
 pub mod Marks

@@ -2,36 +2,62 @@
 --
 -- What is drawn first lies below what is drawn later: the ground and the bands of the phases, the columns, the line through the chain's
 -- events, the arrows, and then the words.
-use Rattle.std.specs.Prelude.{ℕ, ◌+◌, ◌-◌, ◌*◌, ◌%◌, ◌==◌, Bool, true, false, nat_lt, List, [], ◌∷◌, ◌++◌, codes, flat_map, Option, Some, None, if◌then◌else◌}
+use Rattle.std.specs.Prelude.{ℕ, ◌+◌, ◌-◌, ◌*◌, ◌/◌, ◌%◌, max, ◌==◌, Bool, true, false, nat_lt, List, [], ◌∷◌, ◌++◌, codes, flat_map, Option, Some, None, if◌then◌else◌}
 use Rattle.std.specs.List.{range_with_len}
 use Rattle.std.specs.Fmt.{decimal}
 use Rattle.text_pieces.specs.Pieces.{space}
 use Rattle.dn_base.specs.declared.ids.PhaseId.{PhaseId}
 use Rattle.message_net.specs.declared.actor.Actor.{Actor}
-use Rattle.message_net.specs.declared.actor.Actor.TheVariants.{Core, Bank, Keeper}
+use Rattle.message_net.specs.declared.actor.Actor.TheVariants.{Core, Keeper}
 use Rattle.rv_core.specs.declared.task.End.{End}
 use Rattle.text_places.specs.declared.places.Located.{Located}
 use Rattle.run_chart.specs.declared.parts.Chart.{Chart}
 use Rattle.run_chart.specs.declared.parts.ChartRow.{ChartRow}
+use Rattle.run_chart.specs.declared.parts.Fit.{Fit}
+use Rattle.run_chart.specs.declared.parts.Fit.TheVariants as fit
 use Rattle.run_chart.specs.declared.parts.LeavingMail.{LeavingMail}
 use Rattle.run_chart.specs.declared.parts.WaitingTask.{WaitingTask}
 use Rattle.run_chart.specs.declared.parts.Origin.{Origin}
 use Rattle.run_chart.specs.declared.states.WordChange.{WordChange}
 use Rattle.run_chart.specs.Elements.{y_of, top, attribute, circle, rectangle, upright, level, line_to, head_from_left, head_from_right, words_at}
-use Rattle.run_chart.specs.Places.{is_shown, column}
+use Rattle.run_chart.specs.Places.{actor_with, is_shown, column}
 use Rattle.run_chart.specs.Labels.{actor_name, change_text, label_text, task_end_text, waiting_text, title_text, machine_text, named}
 
 -- ---- its size
 
 -- after the last column there is room for words
-abbrev pub width : Chart → ℕ
-width chart = column chart Keeper + 300
+abbrev pub room : Chart → ℕ
+room chart = column chart Keeper + 300
 
 abbrev pub bottom : Chart → ℕ
 bottom chart = y_of chart.lines
 
+-- the least number of which 16 times is as wide and 9 times as high
+abbrev pub ninth : ℕ → ℕ → ℕ
+ninth wide high = max ((wide + 15) / 16) ((high + 8) / 9)
+
+abbrev pub width_by : Fit → ℕ → ℕ → ℕ
+width_by fit.Rows wide high = wide
+width_by fit.Slide wide high = 16 * ninth wide high
+
+abbrev pub height_by : Fit → ℕ → ℕ → ℕ
+height_by fit.Rows wide high = high
+height_by fit.Slide wide high = 9 * ninth wide high
+
+abbrev pub width : Chart → ℕ
+width chart = width_by chart.fit (room chart) (bottom chart + 18)
+
 abbrev pub height : Chart → ℕ
-height chart = bottom chart + 18
+height chart = height_by chart.fit (room chart) (bottom chart + 18)
+
+-- how large it is shown where nothing else is said: a slide is scaled
+abbrev pub shown_width : Chart → Fit → ℕ
+shown_width chart fit.Rows = width chart
+shown_width chart fit.Slide = 1280
+
+abbrev pub shown_height : Chart → Fit → ℕ
+shown_height chart fit.Rows = height chart
+shown_height chart fit.Slide = 720
 
 -- ---- the head
 
@@ -58,7 +84,8 @@ unfoldable pub view_box : ℕ → ℕ → List ℕ
 view_box w h = view_box_begin ++ decimal w ++ space ++ decimal h ++ codes "'>\n"
 
 unfoldable pub sizes : Chart → List ℕ
-sizes chart = attribute (codes "width") (width chart) ++ attribute (codes "height") (height chart) ++ view_box (width chart) (height chart)
+sizes chart =
+    attribute (codes "width") (shown_width chart chart.fit) ++ attribute (codes "height") (shown_height chart chart.fit) ++ view_box (width chart) (height chart)
 
 -- what a screen reader reads out
 unfoldable pub title_element : Chart → List ℕ
@@ -109,15 +136,11 @@ unfoldable pub lane : Chart → Actor → List ℕ
 lane chart actor =
     words_at (codes "actor") (column chart actor) 96 (actor_name actor) ++ upright (codes "lane") (column chart actor) top (bottom chart)
 
-abbrev pub core_lane : Chart → ℕ → List ℕ
-core_lane chart core = lane chart (Core (record { 0 = core }))
+abbrev pub lane_at : Chart → ℕ → List ℕ
+lane_at chart index = if is_shown chart.shown index then lane chart (actor_with chart.shape index) else []
 
-abbrev pub bank_lane : Chart → ℕ → List ℕ
-bank_lane chart bank = if is_shown chart.shown bank then lane chart (Bank (record { 0 = bank })) else []
-
-abbrev pub lanes : Chart → List ℕ
-lanes chart =
-    flat_map (core_lane chart) (range_with_len 0 chart.shape.cores) ++ flat_map (bank_lane chart) (range_with_len 0 16) ++ lane chart Keeper
+unfoldable pub lanes : Chart → List ℕ
+lanes chart = flat_map (lane_at chart) (range_with_len 0 32) ++ lane chart Keeper
 
 -- ---- the chain
 

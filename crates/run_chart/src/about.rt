@@ -1,8 +1,8 @@
 //! What events and messages are about, and how a task ends with an event.
-ghost use Rattle.std.specs.Prelude.{◌≡◌, length, option_copied};
+ghost use Rattle.std.specs.Prelude.{◌≡◌, length, option_copied, slice_get};
 ghost use Rattle.machine_rules.specs.Sound.{IsMachine};
 ghost use Rattle.message_net.specs.Pool.{removed};
-ghost use Rattle.run_chart.specs.About.{about_code, about_core, about_in, about_mail, about_message, about_task, core_ends_by, need_ends_by, ends_by};
+ghost use Rattle.run_chart.specs.About.{about_code, about_core, about_in, about_mail, about_message, about_task, core_ends_by, need_ends_by, needed_by, node_needs, ends_by};
 
 use crate::About;
 use crate::affected::mail_of;
@@ -97,6 +97,29 @@ pub(crate) fn about(machine: &Machine, event: Event) -> About
         Event::Evict(_, word) => About::Word(word),
         Event::Arrive(_) => About::Nothing,
         Event::Handle(id) => about_mail(mail_of(machine.pool(), id)),
+    }
+}
+
+/// What a core's next instruction needs.
+fn core_needs(machine: &Machine, core: CoreId) -> Option<Need>
+    requires { IsMachine machine.now.state }
+    ensures { result ≡ node_needs machine.now.state.setting (slice_get machine.now.state.nodes core.0) }
+{
+    if core.0 < machine.shape().cores {
+        machine.node(core).needs(machine.program(), machine.fuel())
+    } else {
+        None
+    }
+}
+
+/// What the instruction needs that an event makes; None where the event is no instruction of a task.
+pub(crate) fn needed_by(machine: &Machine, event: Event) -> Option<Need>
+    requires { IsMachine machine.now.state }
+    ensures { result ≡ needed_by machine.now.state event }
+{
+    match event {
+        Event::Instr(core) => core_needs(machine, core),
+        _ => None,
     }
 }
 

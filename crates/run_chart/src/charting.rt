@@ -1,13 +1,13 @@
-ghost use Rattle.std.specs.Prelude.{◌≡◌, ◌+◌, ◌≤◌, [], length, take, drop, IfOk, OnOk};
+ghost use Rattle.std.specs.Prelude.{◌≡◌, ◌+◌, ◌-◌, ◌≤◌, [], length, take, drop, IfOk, OnOk};
 ghost use Rattle.dn_machine.specs.Sizes.{FitsMachine};
 ghost use Rattle.machine_rules.specs.Sound.{IsMachine};
-ghost use Rattle.run_chart.specs.Charts.{chart_by, chart_in, drawn, leaving_in, reaches_end, waiting_at, waiting_in, IsChartOf, IsRangeDrawn, IsFinishable};
+ghost use Rattle.run_chart.specs.Charts.{chart_by, chart_in, drawn, last_event, leaving_in, reaches_end, waiting_at, waiting_in, IsChartOf, IsRangeDrawn, IsFinishable};
 ghost use Rattle.run_chart.specs.Drawing.{begun, empty_drawing};
 
 use crate::drawing::{Drawing, Range, pass};
-use crate::finishing::{Columns, leaving_mails, shown_banks, waiting_tasks};
+use crate::finishing::{Columns, leaving_mails, shown_actors, waiting_tasks};
 use crate::mails::unknown_mails;
-use crate::{Chart, ChartRow, LeavingMail, WaitingTask};
+use crate::{Chart, ChartRow, Fit, LeavingMail, WaitingTask};
 use dn_base::{MOST_EVENTS, Memory, Sequence, Shape};
 use dn_machine::{Machine, a_machine_is_kept};
 use effect_checker::Checked;
@@ -66,6 +66,23 @@ pub(crate) struct Frame {
     pub(crate) columns: Columns,
 }
 
+/// The number of the last of this many things, or 0.
+fn last_of(count: usize) -> usize
+    ensures { result ≡ count - 1 }
+{
+    if count == 0 { 0 } else { count - 1 }
+}
+
+/// The number of the last row's event, if there is one.
+fn last_event(rows: &[ChartRow]) -> Option<u32>
+    ensures { result ≡ last_event rows.now }
+{
+    match rows.get(last_of(rows.len())) {
+        Some(row) => Some(row.event),
+        None => None,
+    }
+}
+
 /// The chart of these rows, which end before a line, messages and tasks.
 fn chart_with(
     alloc: Global,
@@ -79,23 +96,27 @@ fn chart_with(
     ensures { IfOk result (λ chart. chart ≡ chart_by frame rows leaving waiting line) }
 {
     let lines = line + leaving.len() as u32 + waiting.len() as u32;
-    let shown = shown_banks(
+    let shown = shown_actors(
         alloc,
         frame.columns,
         rows.as_slice(),
         leaving.as_slice(),
-        frame.shape.banks,
+        waiting.as_slice(),
+        frame.shape,
     )?;
     Ok(Chart {
         shape: frame.shape,
         fuel: frame.fuel,
         first: frame.range.first,
+        last: last_event(rows.as_slice()),
         events: frame.events,
         shown,
         rows,
         leaving,
         waiting,
         lines,
+        note: Sequence::new(alloc),
+        fit: Fit::Rows,
     })
 }
 

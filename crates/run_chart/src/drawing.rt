@@ -4,12 +4,12 @@ ghost use Rattle.machine_rules.specs.Next.{enabled, next};
 ghost use Rattle.machine_rules.specs.Sound.{IsMachine};
 ghost use Rattle.dn_machine.specs.Actors.{receiver_of};
 ghost use Rattle.run_chart.specs.declared.parts.ChartRow.{ChartRow as ARow};
-ghost use Rattle.run_chart.specs.Drawing.{event_maker, row_lines, the_actor, with_rows, HaveCome, HasRow, IsLookBefore, IsRowed};
+ghost use Rattle.run_chart.specs.Drawing.{event_maker, is_past, row_lines, the_actor, with_rows, HaveCome, HasRow, IsLookBefore, IsRowed};
 ghost use Rattle.run_chart.specs.Picture.{end_lines};
 ghost use Rattle.run_chart.specs.Mails.{AreNotedFor, mails_left, sent_on};
 ghost use Rattle.run_chart.specs.Words.{changes_among, word_state};
 
-use crate::about::{about, ends_by};
+use crate::about::{about, ends_by, needed_by};
 use crate::gathering::affected_words;
 use crate::mails::{SentMail, after_event, origin_of, place_handled};
 use crate::marks::marks;
@@ -18,7 +18,7 @@ use crate::{About, ChartRow, Origin, WordChange};
 use dn_base::{MOST_EVENTS, Memory, PhaseId, Sequence};
 use dn_machine::{Machine, a_machine_is_kept};
 use message_net::{Actor, Event, MailId, Pool};
-use rv_core::End;
+use rv_core::{End, Need};
 use std::alloc::Global;
 use std::mem;
 
@@ -47,6 +47,8 @@ pub(crate) struct Look {
     pub(crate) place: Option<u32>,
     pub(crate) actor: Actor,
     pub(crate) about: About,
+    /// What its instruction needs.
+    pub(crate) need: Option<Need>,
     /// The barrier controller's phase.
     pub(crate) phase: PhaseId,
     /// Where its message comes from.
@@ -116,11 +118,19 @@ fn look_at(
         place: place_handled(machine.pool(), event),
         actor,
         about: about(machine, event),
+        need: needed_by(machine, event),
         phase: machine.keeper().phase(),
         mail: origin_of(machine.pool(), sent, event),
         end: ends_by(machine, event),
         held: held_words(alloc, machine, actor, words.as_slice())?,
     })
+}
+
+/// Whether the barrier controller is in another phase than this one.
+fn is_past(machine: &Machine, phase: PhaseId) -> bool
+    ensures { result ≡ is_past machine.now.state phase }
+{
+    machine.keeper().phase().0 != phase.0
 }
 
 /// How many lines a task's end takes.
@@ -135,7 +145,7 @@ fn end_lines(end: Option<End>) -> u32
 }
 
 /// How many lines a row has: one for its event, one if a task ends, and one for each change.
-fn row_lines(end: Option<End>, changes: &[WordChange]) -> u32
+pub(crate) fn row_lines(end: Option<End>, changes: &[WordChange]) -> u32
     requires { length changes.now ≤ 65536 }
     ensures { result ≡ row_lines end changes.now }
 {
@@ -169,7 +179,9 @@ fn row_of(
         actor: before.actor,
         kind: stepped.kind,
         about: before.about,
+        need: before.need,
         phase: before.phase,
+        ends_phase: is_past(machine, before.phase),
         line,
         lines: row_lines(before.end, changes.as_slice()),
         mail: before.mail,

@@ -11,10 +11,10 @@ pub(crate) const TOP: u64 = 104;
 
 /// The middle of the column at a place.
 pub(crate) fn x_of(place: u64) -> u64
-    requires { place ≤ 4294967311 }
+    requires { place ≤ 32 }
     ensures value { result ≡ x_of place }
     ensures least { 300 ≤ result }
-    ensures most { result ≤ 566935685352 }
+    ensures most { result ≤ 4524 }
 {
     300 + 132 * place
 }

@@ -1,30 +1,32 @@
-//! What a chart has after its rows, and which banks have a column.
+//! What a chart has after its rows, and which cores and banks have a column.
 ghost use Rattle.std.specs.Prelude.{◌≡◌, ◌+◌, ◌≤◌, [], length, map, IfOk};
 ghost use Rattle.std.specs.List.{list_any, range_with_len};
 ghost use Rattle.machine_rules.specs.Sound.{IsMachine};
-ghost use Rattle.run_chart.specs.Finishing.{comes_from, leaves_for, has_column, is_bank, leaving_from, shown_banks, uses_bank, waiting_from, lock_wanted, leaving_mail};
+ghost use Rattle.message_net.specs.Id.{same_actor};
+ghost use Rattle.run_chart.specs.Finishing.{comes_from, leaves_for, has_column_at, leaving_from, shown_actors, uses, waiting_from, waits, lock_wanted, leaving_mail};
 ghost use Rattle.run_chart.specs.Mails.{AreNotedFor};
 
 use crate::about::about_message;
 use crate::mails::SentMail;
+use crate::places::actor_with;
 use crate::{ChartRow, LeavingMail, Origin, WaitingTask};
-use dn_base::{CoreId, LockId, Memory, Sequence};
+use dn_base::{CoreId, LockId, Memory, Sequence, Shape};
 use dn_machine::Machine;
 use message_net::{Actor, Mail, Pool};
 use registration_protocol::NodeWait;
 use std::alloc::Global;
 
-/// Which banks have a column.
+/// Which cores and banks have a column.
 #[derive(Clone, Copy)]
 pub enum Columns {
     /// All of them.
     All,
-    /// Those that make an event of the range, and those that send or get a message of the chart.
+    /// Those that make an event of the chart, send or get a message of it, or have a task that waits.
     Used,
 }
 
 /// A message that is in flight after the range; an event of the range sent it on this line.
-fn leaving(mail: Mail, sent: u32, line: u32) -> LeavingMail
+fn leaving_mail(mail: Mail, sent: u32, line: u32) -> LeavingMail
     ensures { result ≡ leaving_mail mail sent line }
 {
     LeavingMail {
@@ -58,7 +60,7 @@ pub(crate) fn leaving_mails(
     for noted in sent {
         let mail = pool.at(place);
         if let Some(sent_on) = noted.line {
-            mails.push(leaving(mail, sent_on, line))?;
+            mails.push(leaving_mail(mail, sent_on, line))?;
             line += 1;
         }
         place += 1;
@@ -107,73 +109,95 @@ pub(crate) fn waiting_tasks(
     Ok(tasks)
 }
 
-/// Whether an actor is the bank of a number.
-fn is_bank(bank: u32, actor: Actor) -> bool
-    ensures { result ≡ is_bank bank actor }
+/// Whether two actors are the same.
+fn is_actor(actor: Actor, other: Actor) -> bool
+    ensures { result ≡ same_actor actor other }
 {
-    match actor {
-        Actor::Bank(other) => other.0 == bank,
+    match (actor, other) {
+        (Actor::Core(core), Actor::Core(other)) => core.0 == other.0,
+        (Actor::Bank(bank), Actor::Bank(other)) => bank.0 == other.0,
+        (Actor::Keeper, Actor::Keeper) => true,
         _ => false,
     }
 }
 
-/// Whether a message comes from a bank.
-fn comes_from(bank: u32, mail: Option<Origin>) -> bool
-    ensures { result ≡ comes_from bank mail }
+/// Whether a message comes from an actor.
+fn comes_from(actor: Actor, mail: Option<Origin>) -> bool
+    ensures { result ≡ comes_from actor mail }
 {
     match mail {
-        Some(mail) => is_bank(bank, mail.sender),
+        Some(mail) => is_actor(actor, mail.sender),
         None => false,
     }
 }
 
-/// Whether a row is about an event of a bank, or the handling of a message of it.
-fn uses_bank(bank: u32, row: &ChartRow) -> bool
-    ensures { result ≡ uses_bank bank row.now }
+/// Whether a row is about an event of an actor, or the handling of a message of it.
+fn uses(actor: Actor, row: &ChartRow) -> bool
+    ensures { result ≡ uses actor row.now }
 {
-    is_bank(bank, row.actor) || comes_from(bank, row.mail)
+    is_actor(actor, row.actor) || comes_from(actor, row.mail)
 }
 
 /// Whether some row is.
-fn any_uses(bank: u32, rows: &[ChartRow]) -> bool
-    ensures { result ≡ list_any (uses_bank bank) rows.now }
+fn any_uses(actor: Actor, rows: &[ChartRow]) -> bool
+    ensures { result ≡ list_any (uses actor) rows.now }
 {
-    rows.iter().any(|row| uses_bank(bank, row))
+    rows.iter().any(|row| uses(actor, row))
 }
 
-/// Whether some message that leaves the chart goes to a bank.
-fn any_goes(bank: u32, mails: &[LeavingMail]) -> bool
-    ensures { result ≡ list_any (leaves_for bank) mails.now }
+/// Whether some message that leaves the chart goes to an actor.
+fn any_goes(actor: Actor, mails: &[LeavingMail]) -> bool
+    ensures { result ≡ list_any (leaves_for actor) mails.now }
 {
-    mails.iter().any(|mail| is_bank(bank, mail.to))
+    mails.iter().any(|mail| is_actor(actor, mail.to))
 }
 
-/// Whether a bank has a column.
-fn has_column(columns: Columns, rows: &[ChartRow], leaving: &[LeavingMail], bank: u32) -> bool
-    ensures { result ≡ has_column columns rows.now leaving.now bank }
+/// Whether some task that waits is an actor's.
+fn any_waits(actor: Actor, tasks: &[WaitingTask]) -> bool
+    ensures { result ≡ list_any (waits actor) tasks.now }
 {
+    tasks
+        .iter()
+        .any(|task| is_actor(actor, Actor::Core(task.core)))
+}
+
+/// Whether the core or bank with an index has a column.
+fn has_column_at(
+    columns: Columns,
+    rows: &[ChartRow],
+    leaving: &[LeavingMail],
+    waiting: &[WaitingTask],
+    shape: Shape,
+    index: u64,
+) -> bool
+    ensures { result ≡ has_column_at columns rows.now leaving.now waiting.now shape index }
+{
+    let actor = actor_with(shape, index);
     match columns {
         Columns::All => true,
-        Columns::Used => any_uses(bank, rows) || any_goes(bank, leaving),
+        Columns::Used => {
+            any_uses(actor, rows) || (any_goes(actor, leaving) || any_waits(actor, waiting))
+        }
     }
 }
 
-/// For each of this many banks whether it has a column.
+/// For each core and bank, by its index, whether it has a column.
 ///
 /// # Errors
 /// `Memory` where there is no room.
-pub(crate) fn shown_banks(
+pub(crate) fn shown_actors(
     alloc: Global,
     columns: Columns,
     rows: &[ChartRow],
     leaving: &[LeavingMail],
-    banks: u32,
+    waiting: &[WaitingTask],
+    shape: Shape,
 ) -> Result<Sequence<bool>, Memory>
-    ensures { IfOk result (λ shown. shown ≡ shown_banks columns rows.now leaving.now banks) }
+    ensures { IfOk result (λ shown. shown ≡ shown_actors columns rows.now leaving.now waiting.now shape) }
 {
     let mut shown = Sequence::new(alloc);
-    for bank in 0..banks {
-        shown.push(has_column(columns, rows, leaving, bank))?;
+    for index in 0..shape.cores as u64 + shape.banks as u64 {
+        shown.push(has_column_at(columns, rows, leaving, waiting, shape, index))?;
     }
     Ok(shown)
 }

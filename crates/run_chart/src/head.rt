@@ -3,7 +3,7 @@ ghost use Rattle.std.specs.Prelude.{◌≡◌, ◌≤◌, ◌++◌, codes, flat_
 ghost use Rattle.std.specs.List.{range_with_len};
 ghost use Rattle.run_chart.specs.Elements.{words_at};
 ghost use Rattle.run_chart.specs.Labels.{actor_name, machine_text, named, title_text};
-ghost use Rattle.run_chart.specs.Picture.{band, bands, bank_lane, core_lane, description, ground, heading, is_of_phase, lane, lanes, legend, meaning, opening, phase_begin, phase_if_new, sizes, style, svg_begin, title_element, view_box, view_box_begin, height, width};
+ghost use Rattle.run_chart.specs.Picture.{band, bands, description, ground, heading, is_of_phase, lane, lane_at, lanes, legend, meaning, opening, phase_begin, phase_if_new, sizes, style, svg_begin, title_element, view_box, view_box_begin, height, width};
 
 use crate::elements::{
     Point, TOP, push_attribute, push_level, push_rectangle, push_upright, push_words_begin,
@@ -11,8 +11,8 @@ use crate::elements::{
 };
 use crate::labels::{push_actor, push_machine, push_title};
 use crate::parts::{Chart, ChartRow};
-use crate::places::MOST_BANKS;
-use dn_base::{BankId, CoreId, Memory, PhaseId};
+use crate::places::{MOST_ACTORS, actor_with};
+use dn_base::{Memory, PhaseId};
 use message_net::Actor;
 use text_pieces::Piece::{Bytes, Long, Number};
 use text_pieces::{push, push_long, push_pieces};
@@ -84,8 +84,8 @@ fn push_view_box(out: &mut Vec<u8>, width: u64, height: u64) -> Result<(), Memor
 fn push_sizes(out: &mut Vec<u8>, chart: &Chart) -> Result<(), Memory>
     ensures { OnOk result (out.new.items ≡ out.old.items ++ sizes chart.now) }
 {
-    push_attribute(out, b"width", chart.width())?;
-    push_attribute(out, b"height", chart.height())?;
+    push_attribute(out, b"width", chart.shown_width())?;
+    push_attribute(out, b"height", chart.shown_height())?;
     push_view_box(out, chart.width(), chart.height())
 }
 
@@ -296,39 +296,32 @@ fn push_lane(out: &mut Vec<u8>, chart: &Chart, actor: Actor) -> Result<(), Memor
     push_upright(out, b"lane", Point { x, y: TOP }, chart.bottom())
 }
 
-fn push_core_lanes(out: &mut Vec<u8>, chart: &Chart) -> Result<(), Memory>
-    ensures { OnOk result (out.new.items ≡ out.old.items ++ flat_map (core_lane chart.now) (range_with_len 0 chart.now.shape.cores)) }
+/// Adds the column of the core or bank with an index, if it has one.
+fn push_lane_at(out: &mut Vec<u8>, chart: &Chart, index: usize) -> Result<(), Memory>
+    ensures { OnOk result (out.new.items ≡ out.old.items ++ lane_at chart.now index) }
 {
-    for core in 0..chart.shape.cores {
-        push_lane(out, chart, Actor::Core(CoreId(core)))?;
-    }
-    Ok(())
-}
-
-fn push_bank_lane(out: &mut Vec<u8>, chart: &Chart, bank: u32) -> Result<(), Memory>
-    ensures { OnOk result (out.new.items ≡ out.old.items ++ bank_lane chart.now bank) }
-{
-    if chart.is_shown(bank) {
-        push_lane(out, chart, Actor::Bank(BankId(bank)))
+    if chart.is_shown(index) {
+        push_lane(out, chart, actor_with(chart.shape, index as u64))
     } else {
         Ok(())
     }
 }
 
-fn push_bank_lanes(out: &mut Vec<u8>, chart: &Chart) -> Result<(), Memory>
-    ensures { OnOk result (out.new.items ≡ out.old.items ++ flat_map (bank_lane chart.now) (range_with_len 0 16)) }
+/// Adds the columns of the cores and banks that have one.
+fn push_shown_lanes(out: &mut Vec<u8>, chart: &Chart) -> Result<(), Memory>
+    ensures { OnOk result (out.new.items ≡ out.old.items ++ flat_map (lane_at chart.now) (range_with_len 0 32)) }
 {
-    for bank in 0..MOST_BANKS {
-        push_bank_lane(out, chart, bank)?;
+    for index in 0..MOST_ACTORS {
+        push_lane_at(out, chart, index)?;
     }
     Ok(())
 }
 
 /// Adds the columns of all actors.
+#[tactic(auto, unfolding(crate::specs::Picture::lanes))]
 pub(crate) fn push_lanes(out: &mut Vec<u8>, chart: &Chart) -> Result<(), Memory>
     ensures { OnOk result (out.new.items ≡ out.old.items ++ lanes chart.now) }
 {
-    push_core_lanes(out, chart)?;
-    push_bank_lanes(out, chart)?;
+    push_shown_lanes(out, chart)?;
     push_lane(out, chart, Actor::Keeper)
 }

@@ -192,15 +192,10 @@ pub(crate) fn push_waiting(out: &mut Vec<u8>, text: &Located, lock: LockId) -> R
     push_lock(out, text.program.locks.as_slice(), lock.0 as usize)
 }
 
-/// Adds which events have rows, by the first of them and the last row.
+/// Adds which events the range has, by the first and the last of them.
 #[tactic(auto, unfolding(crate::specs::Labels::empty_text, crate::specs::Labels::no_event, crate::specs::Labels::numbers_text, crate::specs::Labels::title_begin))]
-fn push_events(
-    out: &mut Vec<u8>,
-    first: u32,
-    last: Option<&ChartRow>,
-    events: u32,
-) -> Result<(), Memory>
-    ensures { OnOk result (out.new.items ≡ out.old.items ++ (title_begin ++ events_text first (option_copied last.entry) events)) }
+fn push_events(out: &mut Vec<u8>, first: u32, last: Option<u32>, events: u32) -> Result<(), Memory>
+    ensures { OnOk result (out.new.items ≡ out.old.items ++ (title_begin ++ events_text first last events)) }
 {
     let events = Number(events);
     match last {
@@ -210,7 +205,7 @@ fn push_events(
                 Bytes(b"Message chart: events "),
                 Number(first),
                 Bytes(b" to "),
-                Number(last.event),
+                Number(last),
                 Bytes(b" of "),
                 events,
             ],
@@ -219,20 +214,13 @@ fn push_events(
     }
 }
 
-/// The number of the last of this many things, or 0.
-fn last_of(count: usize) -> usize
-    ensures { result ≡ count - 1 }
-{
-    if count == 0 { 0 } else { count - 1 }
-}
-
 /// Adds the title.
 #[tactic(auto, unfolding(crate::specs::Labels::title_text))]
 pub(crate) fn push_title(out: &mut Vec<u8>, chart: &Chart) -> Result<(), Memory>
     ensures { OnOk result (out.new.items ≡ out.old.items ++ title_text chart.now) }
 {
-    let last = chart.rows.get(last_of(chart.rows.len()));
-    push_events(out, chart.first, last, chart.events)
+    push_events(out, chart.first, chart.last, chart.events)?;
+    push(out, chart.note.as_slice())
 }
 
 #[tactic(auto, unfolding(crate::specs::Labels::actors_text, crate::specs::Labels::machine_begin, crate::specs::Labels::named))]

@@ -53,7 +53,7 @@ pub fn arrows_lead_from_the_senders_of_mails()
 {}
 
 /// The actor of each row has a column, and so have the actors at both ends of each arrow and the cores of the tasks that wait, also where
-/// banks that do nothing in the range have none.
+/// cores and banks that do nothing in the range have none.
 pub fn rows_and_arrows_have_columns()
     ensures rows { (C : Setting) (events : List Event) (range : Range) (chain : List ℕ) (columns : Columns) (i : ℕ) (row : ChartRow) → IsReady C → IsRun (initial_state C) events
         → slice_get (chart_of C events range chain columns).rows i ≡ Some row → HasColumn (chart_of C events range chain columns) row.actor }

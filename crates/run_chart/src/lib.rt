@@ -4,11 +4,14 @@
 mod about;
 mod affected;
 mod charting;
+mod choosing;
 mod drawing;
 mod elements;
 mod finishing;
 mod gathering;
 mod head;
+mod keeping;
+mod kept_laws;
 mod labels;
 mod laws;
 mod mails;
@@ -22,13 +25,19 @@ mod states;
 mod words;
 
 pub use charting::chart;
+pub use choosing::keeping_of;
 pub use drawing::Range;
 pub use finishing::Columns;
+pub use keeping::{Keeping, PlainRows, kept_chart};
+pub use kept_laws::{
+    arrows_between_rows_that_are_kept, each_event_that_is_kept_has_one_row,
+    rows_and_arrows_that_are_kept_have_columns, rows_that_are_kept_do_not_overlap,
+};
 pub use laws::{
     arrows_lead_from_the_senders_of_mails, each_event_of_the_range_has_one_row,
     rows_and_arrows_have_columns, rows_do_not_overlap, the_events_of_the_chain_are_marked,
 };
-pub use parts::{About, Chart, ChartRow, LeavingMail, Origin, WaitingTask};
+pub use parts::{About, Chart, ChartRow, Fit, LeavingMail, Origin, WaitingTask};
 pub use picture::chart_text;
 pub use picture_laws::{
     different_actors_have_different_columns, rows_on_other_lines_are_drawn_apart,

@@ -1,7 +1,7 @@
 use crate::states::WordChange;
 use dn_base::{CoreId, LockId, PhaseId, Sequence, Shape, WordId};
 use message_net::{Actor, EventKind};
-use rv_core::End;
+use rv_core::{End, Need};
 
 /// What an event or a message is about.
 #[derive(Clone, Copy)]
@@ -32,8 +32,12 @@ pub struct ChartRow {
     pub kind: EventKind,
     /// What the event is about: the instruction, the word that is evicted, or what the message that it handles is about.
     pub about: About,
+    /// What the instruction needs that the event makes; None where the event is no instruction of a task.
+    pub need: Option<Need>,
     /// The phase of the barrier controller before the event.
     pub phase: PhaseId,
+    /// Whether this phase ends with the event, and another begins.
+    pub ends_phase: bool,
     /// The line on which the row begins, from 0.
     pub line: u32,
     /// How many lines the row has: one for the event, one for a task's end, and one for each change.
@@ -70,6 +74,15 @@ pub struct WaitingTask {
     pub line: u32,
 }
 
+/// How large a picture is.
+#[derive(Clone, Copy, PartialEq, Eq)]
+pub enum Fit {
+    /// As wide as its columns and as high as its rows.
+    Rows,
+    /// 16:9, for slides: 1,280 by 720 points, into which columns and rows are scaled.
+    Slide,
+}
+
 /// The message chart of some events that follow each other in a run.
 #[derive(Drop)]
 pub struct Chart {
@@ -77,14 +90,20 @@ pub struct Chart {
     pub shape: Shape,
     /// How many instructions a task of it may retire.
     pub fuel: u32,
-    /// The number of the first event that has a row, and how many events the run has.
+    /// The number of the range's first event, and of its last one, if there is one.
     pub first: u32,
+    pub last: Option<u32>,
+    /// How many events the run has.
     pub events: u32,
-    /// Which banks have a column, by their numbers.
+    /// Which cores and banks have a column, by their indices: cores come first.
     pub shown: Sequence<bool>,
     pub rows: Sequence<ChartRow>,
     pub leaving: Sequence<LeavingMail>,
     pub waiting: Sequence<WaitingTask>,
     /// How many lines these have in all.
     pub lines: u32,
+    /// What the title says of the events that are left out.
+    pub note: Sequence<u8>,
+    /// How large the picture is.
+    pub fit: Fit,
 }

@@ -46,7 +46,7 @@ pub(crate) fn push_points(out: &mut Vec<u8>, chart: &Chart, rows: &[ChartRow]) -
 /// Adds an arrow of a class from one point to another to the left. Its line leaves room for its head.
 fn push_arrow_to_left(out: &mut Vec<u8>, class: &[u8], from: Point, to: Point) -> Result<(), Memory>
     requires least { 300 ≤ to.x }
-    requires most { to.x ≤ 566935685352 }
+    requires most { to.x ≤ 4524 }
     ensures { OnOk result (out.new.items ≡ out.old.items ++ (line_to class.now from.x from.y (to.x + 13) to.y ++ head_from_right (to.x + 5) to.y)) }
 {
     let Point { x, y } = to;
@@ -62,7 +62,7 @@ fn push_arrow_to_right(
     to: Point,
 ) -> Result<(), Memory>
     requires least { 300 ≤ to.x }
-    requires most { to.x ≤ 566935685352 }
+    requires most { to.x ≤ 4524 }
     ensures { OnOk result (out.new.items ≡ out.old.items ++ (line_to class.now from.x from.y (to.x - 13) to.y ++ head_from_left (to.x - 5) to.y)) }
 {
     let Point { x, y } = to;
@@ -74,7 +74,7 @@ fn push_arrow_to_right(
 #[tactic(auto, unfolding(crate::specs::Picture::arrow_between))]
 fn push_arrow_between(out: &mut Vec<u8>, class: &[u8], from: Point, to: Point) -> Result<(), Memory>
     requires least { 300 ≤ to.x }
-    requires most { to.x ≤ 566935685352 }
+    requires most { to.x ≤ 4524 }
     ensures { OnOk result (out.new.items ≡ out.old.items ++ arrow_between class.now from.x from.y to.x to.y) }
 {
     if to.x < from.x {
@@ -232,7 +232,7 @@ fn push_beside(
     about: About,
 ) -> Result<(), Memory>
     requires least { 300 ≤ at.x }
-    requires most_x { at.x ≤ 566935685352 }
+    requires most_x { at.x ≤ 4524 }
     requires most_y { at.y ≤ 77309411440 }
     ensures { OnOk result (out.new.items ≡ out.old.items ++ beside from_right at.x at.y (label_text text.now kind about)) }
 {
@@ -280,7 +280,7 @@ fn push_ending_words(out: &mut Vec<u8>, at: Point, end: End) -> Result<(), Memor
 
 /// Adds how the task ends with the event, if it does.
 fn push_row_ending(out: &mut Vec<u8>, at: Point, end: Option<End>) -> Result<(), Memory>
-    requires most_x { at.x ≤ 566935685352 }
+    requires most_x { at.x ≤ 4524 }
     requires most_y { at.y ≤ 77309411440 }
     ensures { OnOk result (out.new.items ≡ out.old.items ++ ending_words at.x at.y end) }
 {

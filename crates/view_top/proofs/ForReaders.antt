@@ -1,10 +1,8 @@
 -- An answer for readers is that of the kept run and its text, and has each word of the memory at the end.
-use Rattle.std.proofs.Common.{◌≡◌, ℕ, ◌<◌, ◌≤◌, Bool, true, false, nat_lt, List, length, flat_map, slice_get, Some, Ok, Err, refl, sym, ap, ◌∙◌, arith}
-use Rattle.std.proofs.lemmas.Bool.Decides.{nat_tests}
+use Rattle.std.proofs.Common.{◌≡◌, ℕ, List, length, flat_map, slice_get, Some, Ok, refl, sym, ap, ◌∙◌}
 use Rattle.std.proofs.lemmas.List.FromFn.{length-map-range_with_len}
 use Rattle.dn_base.specs.declared.ids.Grant.{Grant}
 use Rattle.region_table.specs.Program.{ProgramParts, AreTiled}
-use Rattle.rv_assembler.specs.declared.fault.SourceFault as fault
 use Rattle.rv_assembler.specs.Source.{source}
 use Rattle.rv_assembler.proofs.WellFormed.{source-well-formed}
 use Rattle.registration_protocol.specs.Node.{Setting}
@@ -26,16 +24,6 @@ use Rattle.view_top.specs.Status.{Output}
 use Rattle.view_top.specs.declared.documents.KeptRun.{KeptRun}
 use Rattle.view_top.specs.declared.options.AnswerOptions.{AnswerOptions}
 use Rattle.view_top.specs.Answers.{located, made, IsForReaders}
-
--- a text with a program isn't too large
-source-large : (text : List ℕ) → 1048576 < length text → source text ≡ Err fault.TheVariants.TooLarge
-source-large text more = let test : nat_lt 1048576 (length text) ≡ true = grind (arith, nat_tests) in rw test refl
-
-pub few-bytes : (text : List ℕ) (P : ProgramParts) → source text ≡ Ok P → length text ≤ 1048576
-few-bytes text P is = by_test (nat_lt 1048576 (length text)) refl where
-  by_test : (b : Bool) → nat_lt 1048576 (length text) ≡ b → length text ≤ 1048576
-  by_test true test = let more : 1048576 < length text = grind (arith, nat_tests) in let large = source-large text more in absurd (cc)
-  by_test false test = grind (arith, nat_tests)
 
 pub answer-is : (k : KeptRun) (o : AnswerOptions) (text : List ℕ) (grants : List Grant) (L : Located) (bytes : List ℕ) (out : Output) → text ≡ k.text → source text ≡ Ok L.program → L.places ≡ text_places text
     → grants ≡ k.run.grants → bytes ≡ answer_for_readers o.base text L k.run.ending grants → out ≡ made bytes

@@ -20,6 +20,7 @@ use Rattle.checked_runs.specs.Documents.{IsRefusedDocument, shape_told, HasTrace
 use Rattle.checked_runs.specs.Runs.{IsPrintable}
 use Rattle.run_report.proofs.OneProgram.{one-program}
 use Rattle.view_top.specs.Status.{Output}
+use Rattle.view_top.specs.declared.documents.DocumentRun.{DocumentRun}
 use Rattle.view_top.specs.declared.documents.KeptRun.{KeptRun}
 use Rattle.view_top.specs.declared.options.StateOptions.{StateOptions}
 use Rattle.view_top.specs.Answers.{HasKeptRun, IsStateShown}
@@ -33,14 +34,14 @@ run-on P t r is C told =
     subst (λ (es : List Event). IsRun (initial_state C) es) (sym is.events) run
 
 module _ (document text : List ℕ) (t : Trace) (P : ProgramParts) where
-  pub kept-run : (r : Result KeptRun Stop) → IsDocument document t → text ≡ t.text → source text ≡ Ok P → IsChecked P → IfOk r (IsKeptRun P t)
-      → IfOk r (λ kept. HasKeptRun document (λ _ x run. kept ≡ kept_run_of x run))
+  pub kept-run : (r : Result DocumentRun Stop) → IsDocument document t → text ≡ t.text → source text ≡ Ok P → IsChecked P → IfOk r (λ d. IsKeptRun P t d.kept)
+      → IfOk r (λ d. HasKeptRun document (λ _ x run. d.kept ≡ kept_run_of x run))
   kept-run (Err s) told same is checked h = tt
-  kept-run (Ok k) told same is checked h =
+  kept-run (Ok d) told same is checked h =
       record {
         trace = t;
         is = told;
-        holds = record { program = P; is = ap source (sym same) ∙ is; checked = checked; holds = record { run = k.run; told = h.told; holds = h.is } };
+        holds = record { program = P; is = ap source (sym same) ∙ is; checked = checked; holds = record { run = d.kept.run; told = h.told; holds = h.is } };
       }
 
   ready : (run : RunRecord) → IsDocument document t → source t.text ≡ Ok P → IsChecked P → IsRunTold P t run → IsPrintable run → IsViewable (kept_run_of t run)
@@ -52,17 +53,17 @@ module _ (document text : List ℕ) (t : Trace) (P : ProgramParts) where
         printable = printable;
       }
 
-  pub viewable : (r : Result KeptRun Stop) → IsDocument document t → text ≡ t.text → source text ≡ Ok P → IsChecked P → IfOk r (IsKeptRun P t) → IfOk r IsViewable
+  pub viewable : (r : Result DocumentRun Stop) → IsDocument document t → text ≡ t.text → source text ≡ Ok P → IsChecked P → IfOk r (λ d. IsKeptRun P t d.kept) → IfOk r (λ d. IsViewable d.kept)
   viewable (Err s) told same is checked h = tt
-  viewable (Ok k) told same is checked h = subst IsViewable (sym h.is) (ready k.run told (ap source (sym same) ∙ is) checked h.told h.printable)
+  viewable (Ok d) told same is checked h = subst IsViewable (sym h.is) (ready d.kept.run told (ap source (sym same) ∙ is) checked h.told h.printable)
 
   refused-stop : (s : Stop) → IsDocument document t → text ≡ t.text → source text ≡ Ok P → IsChecked P → IsStop (IsNoRun P t) s → IsStop (IsRefusedDocument document) s
   refused-stop Memory told same is checked h = tt
   refused-stop (Refused line) told same is checked h =
       inr (record { trace = t; is = told; holds = inr (record { program = P; is = ap source (sym same) ∙ is; checked = checked; holds = h }) })
 
-  pub no-run : (r : Result KeptRun Stop) → IsDocument document t → text ≡ t.text → source text ≡ Ok P → IsChecked P → IfErr r (IsStop (IsNoRun P t)) → IfErr r (IsStop (IsRefusedDocument document))
-  no-run (Ok k) told same is checked h = tt
+  pub no-run : (r : Result DocumentRun Stop) → IsDocument document t → text ≡ t.text → source text ≡ Ok P → IsChecked P → IfErr r (IsStop (IsNoRun P t)) → IfErr r (IsStop (IsRefusedDocument document))
+  no-run (Ok d) told same is checked h = tt
   no-run (Err s) told same is checked h = refused-stop s told same is checked h
 
   -- what is shown of the document's program and events is shown of the document
@@ -77,9 +78,6 @@ of-program text slice Q Holds same is holds = record { program = Q; is = ap sour
 -- what holds of a text's program holds of each, since it has one
 pub at-program : (text : List ℕ) (P : ProgramParts) (Holds : ProgramParts → Type 0) → source text ≡ Ok P → HasProgram text Holds → Holds P
 at-program text P Holds is has = subst Holds (one-program text has.program P has.is is) has.holds
-
-pub with-more : (text : List ℕ) (Holds More : ProgramParts → Type 0) → ((P : ProgramParts) → Holds P → More P) → HasProgram text Holds → HasProgram text More
-with-more text Holds More more has = record { program = has.program; is = has.is; holds = more has.program has.holds }
 
 -- a kept run's text may be run
 pub fit : (k : KeptRun) (slice : List ℕ) → slice ≡ k.text → IsViewable k → IsFit slice

@@ -2,7 +2,9 @@ pub mod Commands
 pub mod Counted
 pub mod ForReaders
 pub mod Kept
+pub mod Machines
 pub mod Paged
 pub mod Pictures
 pub mod Shown
+pub mod TaskLines
 pub mod DataTold

@@ -25,6 +25,9 @@ use Rattle.run_account.specs.Forms.{account_text, lists_text}
 use Rattle.run_account.specs.Runs.{nothing_listed, count_of_run}
 use Rattle.run_chart.specs.declared.parts.Chart.{Chart}
 use Rattle.run_chart.specs.Picture.{svg_of}
+use Rattle.run_chart.specs.Choosing.{keeping_of, note_of}
+use Rattle.run_chart.specs.Keeping.{kept_chart}
+use Rattle.run_chart.specs.declared.keeping.Keeping.{Keeping}
 use Rattle.run_chart.specs.declared.drawing.Range.{Range}
 use Rattle.run_chart.specs.Charts.{IsChartOf}
 use Rattle.state_text.specs.declared.answer.StateAnswer.{StateAnswer}
@@ -90,15 +93,22 @@ chart_ticks o = ticks_by o.tick_core o.tick_bank o.tick_mail
 abbrev pub last_number : List Event → ℕ
 last_number events = length events - 1
 
--- the output is the picture of the run's chart, with the rows and the columns that the options ask for, and with marks on the
--- events of the run's longest chain; words, code words and locks have the names of the text
+-- what the options keep of a chart, in the size that they ask for; the title says what is left out
+abbrev pub kept_by_these : Keeping → ChartOptions → Located → Chart → Chart
+kept_by_these K o L chart = kept_chart K o.picture.columns o.picture.fit (note_of K L chart) chart
+
+abbrev pub kept_by : ChartOptions → Located → Chart → Chart
+kept_by o L chart = kept_by_these (keeping_of o.picture.plain o.words o.actors L chart.shape) o L chart
+
+-- the output is the picture of what is kept of the run's chart, with the rows and the columns that the options ask for, and with marks
+-- on the events of the run's longest chain; words, code words and locks have the names of the text
 pub record IsPicture (L : Located) (s : TraceShape) (o : ChartOptions) (events : List Event) (out : Output) : Type 0 where
   pub within : o.first ≤ last_number events
   pub timing : Timing
   pub times : IsTimingOf L.program (shape_told L.program s) s.fuel events (chart_ticks o) timing
   pub chart : Chart
-  pub is : IsChartOf L.program (shape_told L.program s) s.fuel events (range_for o) (numbers_in timing.links.items) o.columns chart
-  pub answer : out ≡ made (svg_of chart L)
+  pub is : IsChartOf L.program (shape_told L.program s) s.fuel events (range_for o) (numbers_in timing.links.items) o.picture.columns chart
+  pub answer : out ≡ made (svg_of (kept_by o L chart) L)
 
 -- the first row, or the page's first event, would be after the run's last event, and the words are refused
 pub record IsPastEnd (first : ℕ) (events : List Event) (out : Output) : Type 0 where

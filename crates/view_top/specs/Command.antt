@@ -1,5 +1,5 @@
 -- The command: its options, which lists of words it takes, and what they ask for.
-use Rattle.std.specs.Prelude.{ℕ, List, codes, bytes_eq, Option, Some, None, option_and_then, option_map, if◌then◌else◌}
+use Rattle.std.specs.Prelude.{ℕ, List, [], codes, bytes_eq, Option, Some, None, option_and_then, option_map, if◌then◌else◌}
 use Rattle.std.specs.Int.{IsInRange}
 use Rattle.clap.specs.Walk.{Row, Text, first_of}
 use Rattle.clap.specs.Simple.{App, new_app, with_rule}
@@ -9,12 +9,17 @@ use Rattle.run_account.specs.declared.form.Form.{Form}
 use Rattle.run_account.specs.declared.form.Form as form
 use Rattle.run_chart.specs.declared.finishing.Columns.{Columns}
 use Rattle.run_chart.specs.declared.finishing.Columns as columns
+use Rattle.run_chart.specs.declared.keeping.PlainRows.{PlainRows}
+use Rattle.run_chart.specs.declared.keeping.PlainRows as plain_rows
+use Rattle.run_chart.specs.declared.parts.Fit.{Fit}
+use Rattle.run_chart.specs.declared.parts.Fit as fit
 use Rattle.state_text.specs.declared.base.Base.{Base}
 use Rattle.state_text.specs.declared.base.Base as base
 use Rattle.program_outside.specs.Words.{bare, faults_in, number_in, number_rule, open_number_rule, text_rule, values_in, where_taken}
 use Rattle.view_top.specs.declared.options.View.{View}
 use Rattle.view_top.specs.declared.options.View as view
 use Rattle.view_top.specs.declared.options.ChartOptions.{ChartOptions}
+use Rattle.view_top.specs.declared.options.PictureOptions.{PictureOptions}
 use Rattle.view_top.specs.declared.options.AccountOptions.{AccountOptions}
 use Rattle.view_top.specs.declared.options.StateOptions.{StateOptions}
 use Rattle.view_top.specs.declared.options.AnswerOptions.{AnswerOptions}
@@ -22,14 +27,18 @@ use Rattle.view_top.specs.declared.options.PageOptions.{PageOptions}
 
 -- ---- the command
 
--- the command `view` with its eleven options; how many rows there are by default depends on the mode
+-- the command `view` with its fifteen options; how many rows there are by default depends on the mode
 unfoldable pub view_command : App
 view_command =
-    with_rule (with_rule (with_rule (with_rule (with_rule (with_rule (with_rule (with_rule (with_rule (with_rule (with_rule (bare (new_app (codes "view")))
+    with_rule (with_rule (with_rule (with_rule (with_rule (with_rule (with_rule (with_rule (with_rule (with_rule (with_rule (with_rule (with_rule (with_rule (with_rule (bare (new_app (codes "view")))
     (text_rule (codes "mode") (codes "chart")))
     (number_rule (codes "first") (codes "0")))
     (open_number_rule (codes "rows")))
     (text_rule (codes "columns") (codes "all")))
+    (text_rule (codes "plain") (codes "on")))
+    (text_rule (codes "words") (codes "")))
+    (text_rule (codes "actors") (codes "")))
+    (text_rule (codes "fit") (codes "rows")))
     (number_rule (codes "tick-core") (codes "1")))
     (number_rule (codes "tick-bank") (codes "10")))
     (number_rule (codes "tick-mail") (codes "5")))
@@ -59,15 +68,46 @@ columns_named text =
 abbrev pub columns_in : List Row → Option Columns
 columns_in rows = option_and_then columns_named (first_of (codes "columns") rows)
 
--- what a chart with these columns is asked, where each number is in its range
-unfoldable pub chart_options_from : List Row → Columns → Option ChartOptions
-chart_options_from rows shown =
+-- which plain instructions have rows, and how large the picture is
+abbrev pub plain_named : Text → Option PlainRows
+plain_named text =
+    if bytes_eq text (codes "on") then Some plain_rows.TheVariants.All
+    else if bytes_eq text (codes "lines") then Some plain_rows.TheVariants.Lines
+    else if bytes_eq text (codes "off") then Some plain_rows.TheVariants.Hidden
+    else None
+
+abbrev pub plain_in : List Row → Option PlainRows
+plain_in rows = option_and_then plain_named (first_of (codes "plain") rows)
+
+abbrev pub fit_named : Text → Option Fit
+fit_named text =
+    if bytes_eq text (codes "rows") then Some fit.TheVariants.Rows
+    else if bytes_eq text (codes "slide") then Some fit.TheVariants.Slide
+    else None
+
+abbrev pub fit_in : List Row → Option Fit
+fit_in rows = option_and_then fit_named (first_of (codes "fit") rows)
+
+-- how a chart is to be drawn
+unfoldable pub picture_options_from : List Row → Option PictureOptions
+picture_options_from rows =
+    option_and_then (λ (shown : Columns).
+    option_and_then (λ (plain : PlainRows).
+    option_and_then (λ (size : Fit).
+    Some (record { columns = shown; plain = plain; fit = size }))
+    (fit_in rows))
+    (plain_in rows))
+    (columns_in rows)
+
+-- what a chart that is drawn so is asked, where each number is in its range; its lists of names come later
+unfoldable pub chart_options_from : List Row → PictureOptions → Option ChartOptions
+chart_options_from rows picture =
     option_and_then (λ (first : ℕ).
     option_and_then (λ (most : ℕ).
     option_and_then (λ (tick_core : ℕ).
     option_and_then (λ (tick_bank : ℕ).
     option_and_then (λ (tick_mail : ℕ).
-    Some (record { first = first; rows = most; columns = shown; tick_core = tick_core; tick_bank = tick_bank; tick_mail = tick_mail }))
+    Some (record { first = first; rows = most; picture = picture; words = []; actors = []; tick_core = tick_core; tick_bank = tick_bank; tick_mail = tick_mail }))
     (number_in rows (codes "tick-mail") 1 1000000))
     (number_in rows (codes "tick-bank") 1 1000000))
     (number_in rows (codes "tick-core") 1 1000000))
@@ -163,35 +203,51 @@ view_named chart account state answer page text =
     else None
 
 -- a mode in which the rows are at most those of a page
-abbrev pub view_of_rows : List Row → Columns → AccountOptions → StateOptions → AnswerOptions → Text → Option View
-view_of_rows rows shown account state answer text =
-    option_and_then (λ (page : PageOptions). view_named (chart_options_from rows shown) account state answer page text) (page_options_from rows)
+abbrev pub view_of_rows : List Row → PictureOptions → AccountOptions → StateOptions → AnswerOptions → Text → Option View
+view_of_rows rows picture account state answer text =
+    option_and_then (λ (page : PageOptions). view_named (chart_options_from rows picture) account state answer page text) (page_options_from rows)
 
 -- the mode that a text names: the data of a run, or one in which the rows have a limit
-abbrev pub view_by_mode : List Row → Columns → AccountOptions → StateOptions → AnswerOptions → PageOptions → Text → Option View
-view_by_mode rows shown account state answer all text =
-    if bytes_eq text (codes "data") then Some (view.TheVariants.Data all) else view_of_rows rows shown account state answer text
+abbrev pub view_by_mode : List Row → PictureOptions → AccountOptions → StateOptions → AnswerOptions → PageOptions → Text → Option View
+view_by_mode rows picture account state answer all text =
+    if bytes_eq text (codes "data") then Some (view.TheVariants.Data all) else view_of_rows rows picture account state answer text
 
 -- what the values of all options ask for: each is in its range, also where the mode leaves it unused; the rows of a chart are fewer than those
 -- of a page, and those of data have no limit
 unfoldable pub view_from : List Row → Option View
 view_from rows =
-    option_and_then (λ (shown : Columns).
+    option_and_then (λ (picture : PictureOptions).
     option_and_then (λ (account : AccountOptions).
     option_and_then (λ (state : StateOptions).
     option_and_then (λ (answer : AnswerOptions).
     option_and_then (λ (all : PageOptions).
-    option_and_then (view_by_mode rows shown account state answer all)
+    option_and_then (view_by_mode rows picture account state answer all)
     (first_of (codes "mode") rows))
     (data_options_from rows))
     (answer_options_from rows))
     (state_options_from rows))
     (account_options_from rows))
-    (columns_in rows)
+    (picture_options_from rows)
+
+-- the text of an option: a list of names
+abbrev pub text_or_none : Option Text → List ℕ
+text_or_none None = []
+text_or_none (Some text) = text
+
+abbrev pub list_in : Text → List Row → List ℕ
+list_in name rows = text_or_none (first_of name rows)
+
+abbrev pub with_names : List Row → ChartOptions → ChartOptions
+with_names rows o = record o { words = list_in (codes "words") rows; actors = list_in (codes "actors") rows }
+
+-- a view with its lists of names, if it is a chart
+abbrev pub with_lists : List Row → View → View
+with_lists rows (view.TheVariants.Chart o) = view.TheVariants.Chart (with_names rows o)
+with_lists rows v = v
 
 -- what these words ask for, if the command takes them
 unfoldable pub view_of : List Text → Option View
-view_of words = where_taken (faults_in view_command words) (view_from (values_in view_command words))
+view_of words = where_taken (faults_in view_command words) (option_map (with_lists (values_in view_command words)) (view_from (values_in view_command words)))
 
 -- ---- limits
 

@@ -3,7 +3,8 @@ use Rattle.std.specs.Prelude.{◌≡◌, ◌≤◌, ℕ, List, length}
 use Rattle.dn_base.specs.declared.limits.TheConstants.{MOST_EVENTS}
 use Rattle.region_table.specs.Program.{ProgramParts}
 use Rattle.dn_machine.specs.declared.record.RunRecord.{RunRecord}
-use Rattle.dn_machine.specs.Settings.{IsRunOn}
+use Rattle.dn_machine.specs.Kept.{Made}
+use Rattle.dn_machine.specs.Settings.{IsRunOn, IsSettingOf}
 use Rattle.run_replay.specs.declared.trace.Trace.{Trace}
 use Rattle.run_replay.specs.Document.{IsTraceShape}
 use Rattle.run_timing.specs.declared.ticks.Ticks.{Ticks}
@@ -35,6 +36,10 @@ pub record IsViewable (k : KeptRun) : Type 0 where
   pub few : length k.run.events ≤ MOST_EVENTS
   pub run : HasChecked k.text (λ P. IsRunOn P (shape_told P k.sizes) k.sizes.fuel k.run.events)
   pub printable : IsPrintable k.run
+
+-- the machine has the program of a kept run's text, in the run's size, whatever events have come on it
+abbrev pub IsMachineOf : KeptRun → Made → Type 0
+IsMachineOf k m = HasChecked k.text (λ P. IsSettingOf P (shape_told P k.sizes) k.sizes.fuel m.state.setting)
 
 -- the timing of a kept run on the machine of a program, by these ticks
 abbrev pub IsKeptTiming : KeptRun → Ticks → Timing → ProgramParts → Type 0

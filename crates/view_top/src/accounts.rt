@@ -1,49 +1,24 @@
 //! The mode account: what a run cost and why, in numbers.
-ghost use Rattle.std.specs.Prelude.{◌≡◌, ◌≤◌, ◌++◌, length, IfOk, IfErr};
+ghost use Rattle.std.specs.Prelude.{◌≡◌, ◌+◌, ◌≤◌, ◌++◌, length, IfOk, IfErr, OnOk};
+ghost use Rattle.machine_rules.specs.Runs.{IsRun};
+ghost use Rattle.run_account.specs.Account.{account_of_run, no_account};
 ghost use Rattle.run_account.specs.Forms.{account_text};
-ghost use Rattle.run_replay.specs.Document.{IsTraceShape};
-ghost use Rattle.dn_machine.specs.Settings.{IsRunOn};
 ghost use Rattle.run_report.specs.Texts.{HasProgram, IsStop};
 ghost use Rattle.checked_runs.specs.Documents.{IsRefusedDocument, shape_told};
 ghost use Rattle.checked_runs.specs.Runs.{IsPrintable};
 ghost use Rattle.view_top.specs.declared.options.View.TheVariants as view;
 ghost use Rattle.view_top.specs.Answers.{heading_of, made, view_made, IsAccount, IsAccountOf};
-ghost use Rattle.view_top.specs.Kept.{IsViewable};
+ghost use Rattle.view_top.specs.Kept.{IsMachineOf, IsViewable};
 
 use crate::AccountOptions;
 use crate::answering::{Output, done_with};
-use crate::documents::{KeptRun, kept_run, program_in, shape_of};
-use dn_base::{MOST_EVENTS, Memory};
-use dn_machine::{Machine, RunRecord, a_machine_is_kept};
-use effect_checker::Checked;
+use crate::documents::{DocumentRun, KeptRun, begin_again, document_run};
+use dn_base::Memory;
+use dn_machine::{Machine, RunRecord};
 use message_net::Event;
 use run_account::{Account, Form, Grouping, account_of, push_account};
-use run_replay::TraceShape;
 use run_report::{Stop, report};
 use std::alloc::Global;
-
-/// The account of a run's events, in these groups.
-fn counted(
-    alloc: Global,
-    sizes: TraceShape,
-    events: &[Event],
-    by: Grouping,
-    program: Checked,
-) -> Result<Account, Memory>
-    requires sizes { IsTraceShape sizes }
-    requires few { length events.now ≤ MOST_EVENTS }
-    requires run { IsRunOn program (shape_told program sizes) sizes.fuel events.now }
-    ensures { IfOk result (λ account. IsAccountOf program (shape_told program sizes) sizes.fuel events.now by account.tallies) }
-{
-    let shape = shape_of(sizes, &program);
-    let machine = Machine::start(alloc, program, shape, sizes.fuel)?;
-    // for the proof alone: no event has come, so the machine is the opened one, and the events are a run of it
-    a_machine_is_kept(&machine);
-    match account_of(alloc, machine, events, by)? {
-        Some(account) => Ok(account),
-        None => unreachable!(),
-    }
-}
 
 /// What stands above the numbers: for readers the report of the run, for other programs nothing.
 pub(crate) fn heading(alloc: Global, form: Form, run: &RunRecord) -> Result<Vec<u8>, Memory>
@@ -56,33 +31,70 @@ pub(crate) fn heading(alloc: Global, form: Form, run: &RunRecord) -> Result<Vec<
     }
 }
 
-/// The account of a kept run's events, in these groups.
-fn account_of_kept(alloc: Global, by: Grouping, kept: &KeptRun) -> Result<Account, Memory>
-    requires { IsViewable kept.now }
-    ensures { IfOk result (λ account. HasProgram kept.now.text (λ P. IsAccountOf P (shape_told P kept.now.sizes) kept.now.sizes.fuel kept.now.run.events by account.tallies)) }
+/// The account of a run's events on its machine, in these groups.
+fn count(
+    alloc: Global,
+    machine: &mut Machine,
+    events: &[Event],
+    by: Grouping,
+) -> Result<Account, Memory>
+    requires run { IsRun machine.old.state events.now }
+    requires few { machine.old.made + length events.now ≤ 4000000000 }
+    ensures account { IfOk result (λ account. account ≡ account_of_run machine.old.state (no_account machine.old.state.setting by) events.now) }
+    ensures setting { OnOk result (machine.new.state.setting ≡ machine.old.state.setting) }
 {
-    let program = program_in(alloc, kept.text.as_slice())?;
-    counted(alloc, kept.sizes, kept.run.events.as_slice(), by, program)
+    match account_of(alloc, machine, events, by)? {
+        Some(account) => Ok(account),
+        None => unreachable!(),
+    }
+}
+
+/// The account of a kept run's events, in these groups.
+fn account_of_kept(
+    alloc: Global,
+    by: Grouping,
+    kept: &KeptRun,
+    machine: &mut Machine,
+) -> Result<Account, Memory>
+    requires kept { IsViewable kept.now }
+    requires machine { IsMachineOf kept.now machine.old }
+    ensures account { IfOk result (λ account. HasProgram kept.now.text (λ P. IsAccountOf P (shape_told P kept.now.sizes) kept.now.sizes.fuel kept.now.run.events by account.tallies)) }
+    ensures machine { OnOk result (IsMachineOf kept.now machine.new) }
+{
+    begin_again(alloc, kept, machine)?;
+    count(alloc, machine, kept.run.events.as_slice(), by)
 }
 
 /// An account, as it is printed.
-fn printed(alloc: Global, form: Form, kept: &KeptRun, account: &Account) -> Result<Output, Memory>
-    requires { IsViewable kept.now }
+fn print(
+    alloc: Global,
+    form: Form,
+    kept: &KeptRun,
+    machine: &Machine,
+    account: &Account,
+) -> Result<Output, Memory>
+    requires kept { IsViewable kept.now }
+    requires machine { IsMachineOf kept.now machine.now }
     ensures { IfOk result (λ out. HasProgram kept.now.text (λ P. out ≡ made (heading_of form kept.now.run ++ account_text form P account.now.tallies))) }
 {
-    let program = program_in(alloc, kept.text.as_slice())?;
     let mut text = heading(alloc, form, &kept.run)?;
-    push_account(&mut text, form, program.program(), account.table())?;
+    push_account(&mut text, form, machine.program(), account.table())?;
     Ok(done_with(text))
 }
 
 /// The account of a run, as the options ask for it.
-fn account(alloc: Global, options: &AccountOptions, kept: &KeptRun) -> Result<Output, Memory>
-    requires { IsViewable kept.now }
+fn account(
+    alloc: Global,
+    options: &AccountOptions,
+    kept: &KeptRun,
+    machine: &mut Machine,
+) -> Result<Output, Memory>
+    requires kept { IsViewable kept.now }
+    requires machine { IsMachineOf kept.now machine.old }
     ensures { IfOk result (λ out. HasProgram kept.now.text (λ P. IsAccount P kept.now.sizes options.now kept.now.run out)) }
 {
-    let account = account_of_kept(alloc, options.by, kept)?;
-    printed(alloc, options.form, kept, &account)
+    let account = account_of_kept(alloc, options.by, kept, machine)?;
+    print(alloc, options.form, kept, machine, &account)
 }
 
 /// The account of a trace's run.
@@ -94,9 +106,11 @@ pub(crate) fn account_document(
     ensures made { IfOk result (view_made (view.Account options.now) document.now) }
     ensures stop { IfErr result (IsStop (IsRefusedDocument document.now)) }
 {
-    let kept = kept_run(alloc, document)?;
-    let printed = account(alloc, options, &kept);
-    // for the prover alone: one call drops the run, in place of the drops of all its parts at each exit
+    let told = document_run(alloc, document)?;
+    let DocumentRun { kept, mut machine } = told;
+    let printed = account(alloc, options, &kept, &mut machine);
+    // for the prover alone: two calls drop the run and its machine, in place of the drops of all their parts at each exit
+    drop(machine);
     drop(kept);
     Ok(printed?)
 }

@@ -7,7 +7,7 @@ ghost use Rattle.run_chart.specs.Charts.{IsChartOf};
 ghost use Rattle.run_report.specs.Texts.{HasProgram, IsStop};
 ghost use Rattle.checked_runs.specs.Documents.{IsRefusedDocument, shape_told};
 ghost use Rattle.view_top.specs.declared.options.View.TheVariants as view;
-ghost use Rattle.view_top.specs.Answers.{chart_ticks, last_number, located, made, range_for, view_made, IsDrawn, IsPicture};
+ghost use Rattle.view_top.specs.Answers.{chart_ticks, kept_by, last_number, located, made, range_for, view_made, IsDrawn, IsPicture};
 ghost use Rattle.view_top.specs.Command.{IsChartInRange};
 ghost use Rattle.view_top.specs.Kept.{IsFit, IsKeptChain, IsViewable};
 
@@ -17,10 +17,11 @@ use crate::documents::{KeptRun, kept_run, places_in, program_in, shape_of};
 use crate::timings::timing_of;
 use dn_base::{Memory, Sequence};
 use message_net::Event;
-use run_chart::{Chart, Columns, Range, chart, chart_text};
+use run_chart::{Chart, Columns, Range, chart, chart_text, keeping_of, kept_chart};
 use run_report::Stop;
 use run_timing::{Link, Ticks};
 use std::alloc::Global;
+use text_places::Located;
 
 /// The range of events that the options ask for.
 fn range_for(options: &ChartOptions) -> Range
@@ -88,13 +89,35 @@ fn chart_of(
     chart(alloc, program, shape, fuel, events, range, chain, columns)
 }
 
-/// A chart drawn, with the names of the text.
-fn drawn(alloc: Global, chart: &Chart, text: &[u8]) -> Result<Output, Memory>
+/// The picture of what the options keep of a chart, with the names of a text.
+fn picture_of(
+    alloc: Global,
+    options: &ChartOptions,
+    chart: &Chart,
+    text: &Located,
+) -> Result<Vec<u8>, Memory>
+    ensures { IfOk result (λ picture. picture.items ≡ svg_of (kept_by options.now text.now chart.now) text.now) }
+{
+    let picture = options.picture;
+    let words = options.words.as_slice();
+    let actors = options.actors.as_slice();
+    let keeping = keeping_of(alloc, picture.plain, words, actors, text, chart.shape)?;
+    let kept = kept_chart(alloc, chart, &keeping, picture.columns, picture.fit, text)?;
+    chart_text(alloc, &kept, text)
+}
+
+/// What the options keep of a chart drawn, with the names of the text.
+fn draw_named(
+    alloc: Global,
+    options: &ChartOptions,
+    chart: &Chart,
+    text: &[u8],
+) -> Result<Output, Memory>
     requires { IsFit text.now }
-    ensures { IfOk result (λ out. HasProgram text.now (λ P. out ≡ made (svg_of chart.now (located P text.now)))) }
+    ensures { IfOk result (λ out. HasProgram text.now (λ P. out ≡ made (svg_of (kept_by options.now (located P text.now) chart.now) (located P text.now)))) }
 {
     let located = places_in(alloc, text)?;
-    let picture = chart_text(alloc, chart, &located);
+    let picture = picture_of(alloc, options, chart, &located);
     // for the prover alone: one call drops the names and the program, in place of the drops of all their parts at each exit
     drop(located);
     Ok(done_with(picture?))
@@ -109,8 +132,14 @@ fn picture(alloc: Global, options: &ChartOptions, kept: &KeptRun) -> Result<Outp
 {
     let chain = chain_of(alloc, options, kept)?;
     let range = range_for(options);
-    let chart = chart_of(alloc, kept, range, chain.as_slice(), options.columns)?;
-    drawn(alloc, &chart, kept.text.as_slice())
+    let chart = chart_of(
+        alloc,
+        kept,
+        range,
+        chain.as_slice(),
+        options.picture.columns,
+    )?;
+    draw_named(alloc, options, &chart, kept.text.as_slice())
 }
 
 /// The picture of a run's chart, or the refusal of a picture that would begin after the run's last event.
@@ -137,7 +166,7 @@ pub(crate) fn draw_document(
 {
     let kept = kept_run(alloc, document)?;
     let drawn = draw(alloc, options, &kept);
-    // for the prover alone, as in `drawn`
+    // for the prover alone, as in `draw_named`
     drop(kept);
     Ok(drawn?)
 }

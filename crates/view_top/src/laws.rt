@@ -8,11 +8,13 @@ ghost use Rattle.dn_machine.specs.declared.record.RunRecord.{RunRecord};
 ghost use Rattle.run_replay.specs.declared.trace.Trace.{Trace};
 ghost use Rattle.checked_runs.specs.Documents.{IsRunTold};
 ghost use Rattle.run_timing.specs.declared.timing.Timing.{Timing};
+ghost use Rattle.state_text.specs.declared.base.Base.{Base};
 ghost use Rattle.state_text.specs.ForReaders.{words_under};
 ghost use Rattle.state_text.specs.Words.{IsUnderItsRegion};
 ghost use Rattle.page_data.specs.declared.run_data.RunData.{RunData};
 ghost use Rattle.view_top.specs.declared.options.PageOptions.{PageOptions};
 ghost use Rattle.view_top.specs.Answers.{AreDataFor};
+ghost use Rattle.view_top.specs.Tasks.{HasLineOfEachTask};
 
 /// The data of a run have a line for each code word of the program, and the statement of this line gives the word.
 pub fn each_line_gives_its_code_word()
@@ -28,4 +30,10 @@ pub fn an_answer_has_each_data_word_once()
     ensures once { (t : Trace) (r : RunRecord) (P : ProgramParts) → source t.text ≡ Ok P → IsRunTold P t r → flat_map (words_under r.ending.memory) P.regions ≡ r.ending.memory }
     ensures place { (t : Trace) (r : RunRecord) (P : ProgramParts) (word value : ℕ) → source t.text ≡ Ok P → IsRunTold P t r → slice_get r.ending.memory word ≡ Some value
         → IsUnderItsRegion P.regions r.ending.memory word value }
+{}
+
+/// An answer for readers has one line for each task of the run. Behind the outcome stand the lines of the tasks of all phases that began,
+/// in the order of phases and cores, and no others. If the run is done, these are all tasks of the program.
+pub fn an_answer_has_a_line_for_each_task()
+    ensures { (t : Trace) (r : RunRecord) (P : ProgramParts) (b : Base) → IsRunTold P t r → HasLineOfEachTask P t.text b r }
 {}

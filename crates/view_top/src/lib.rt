@@ -20,8 +20,13 @@ mod status;
 mod timings;
 
 pub use answering::{Output, answer};
-pub use laws::{an_answer_has_each_data_word_once, each_line_gives_its_code_word};
-pub use options::{AccountOptions, AnswerOptions, ChartOptions, PageOptions, StateOptions, View};
+pub use laws::{
+    an_answer_has_a_line_for_each_task, an_answer_has_each_data_word_once,
+    each_line_gives_its_code_word,
+};
+pub use options::{
+    AccountOptions, AnswerOptions, ChartOptions, PageOptions, PictureOptions, StateOptions, View,
+};
 pub use parsing::read_words;
 pub use program::view_program;
 pub use program_outside::WordsFault;

@@ -1,44 +1,37 @@
 //! The mode lists: a run beside lists of sharers, in numbers.
-ghost use Rattle.std.specs.Prelude.{◌≡◌, ◌≤◌, ◌++◌, length, IfOk, IfErr};
+ghost use Rattle.std.specs.Prelude.{◌≡◌, ◌+◌, ◌≤◌, ◌++◌, length, IfOk, IfErr, OnOk};
+ghost use Rattle.machine_rules.specs.Runs.{IsRun};
 ghost use Rattle.run_account.specs.Forms.{lists_text};
-ghost use Rattle.run_replay.specs.Document.{IsTraceShape};
-ghost use Rattle.dn_machine.specs.Settings.{IsRunOn};
+ghost use Rattle.run_account.specs.Runs.{count_of_run, nothing_listed};
 ghost use Rattle.run_report.specs.Texts.{HasProgram, IsStop};
 ghost use Rattle.checked_runs.specs.Documents.{IsRefusedDocument, shape_told};
 ghost use Rattle.view_top.specs.declared.options.View.TheVariants as view;
 ghost use Rattle.view_top.specs.Answers.{heading_of, made, view_made, IsBeside, IsListingOf};
-ghost use Rattle.view_top.specs.Kept.{IsViewable};
+ghost use Rattle.view_top.specs.Kept.{IsMachineOf, IsViewable};
 
 use crate::AccountOptions;
 use crate::accounts::heading;
 use crate::answering::{Output, done_with};
-use crate::documents::{KeptRun, kept_run, program_in, shape_of};
-use dn_base::{MOST_EVENTS, Memory};
-use dn_machine::{Machine, a_machine_is_kept};
-use effect_checker::Checked;
+use crate::documents::{DocumentRun, KeptRun, begin_again, document_run};
+use dn_base::Memory;
+use dn_machine::Machine;
 use message_net::Event;
 use run_account::{Form, Grouping, Listing, listing_of, push_lists};
-use run_replay::TraceShape;
 use run_report::Stop;
 use std::alloc::Global;
 
-/// A run's events beside lists, in these groups.
-fn counted(
+/// A run's events beside lists on its machine, in these groups.
+fn count(
     alloc: Global,
-    sizes: TraceShape,
+    machine: &mut Machine,
     events: &[Event],
     by: Grouping,
-    program: Checked,
 ) -> Result<Listing, Memory>
-    requires sizes { IsTraceShape sizes }
-    requires few { length events.now ≤ MOST_EVENTS }
-    requires run { IsRunOn program (shape_told program sizes) sizes.fuel events.now }
-    ensures { IfOk result (λ listing. IsListingOf program (shape_told program sizes) sizes.fuel events.now by listing.tallies) }
+    requires run { IsRun machine.old.state events.now }
+    requires few { machine.old.made + length events.now ≤ 4000000000 }
+    ensures listing { IfOk result (λ listing. listing ≡ count_of_run machine.old.state (nothing_listed machine.old.state.setting by) events.now) }
+    ensures setting { OnOk result (machine.new.state.setting ≡ machine.old.state.setting) }
 {
-    let shape = shape_of(sizes, &program);
-    let machine = Machine::start(alloc, program, shape, sizes.fuel)?;
-    // for the proof alone: no event has come, so the machine is the opened one, and the events are a run of it
-    a_machine_is_kept(&machine);
     match listing_of(alloc, machine, events, by)? {
         Some(listing) => Ok(listing),
         None => unreachable!(),
@@ -46,32 +39,51 @@ fn counted(
 }
 
 /// A kept run's events beside lists, in these groups.
-fn listing_of_kept(alloc: Global, by: Grouping, kept: &KeptRun) -> Result<Listing, Memory>
-    requires { IsViewable kept.now }
-    ensures { IfOk result (λ listing. HasProgram kept.now.text (λ P. IsListingOf P (shape_told P kept.now.sizes) kept.now.sizes.fuel kept.now.run.events by listing.tallies)) }
+fn listing_of_kept(
+    alloc: Global,
+    by: Grouping,
+    kept: &KeptRun,
+    machine: &mut Machine,
+) -> Result<Listing, Memory>
+    requires kept { IsViewable kept.now }
+    requires machine { IsMachineOf kept.now machine.old }
+    ensures listing { IfOk result (λ listing. HasProgram kept.now.text (λ P. IsListingOf P (shape_told P kept.now.sizes) kept.now.sizes.fuel kept.now.run.events by listing.tallies)) }
+    ensures machine { OnOk result (IsMachineOf kept.now machine.new) }
 {
-    let program = program_in(alloc, kept.text.as_slice())?;
-    counted(alloc, kept.sizes, kept.run.events.as_slice(), by, program)
+    begin_again(alloc, kept, machine)?;
+    count(alloc, machine, kept.run.events.as_slice(), by)
 }
 
 /// A run beside lists, as it is printed.
-fn printed(alloc: Global, form: Form, kept: &KeptRun, listing: &Listing) -> Result<Output, Memory>
-    requires { IsViewable kept.now }
+fn print(
+    alloc: Global,
+    form: Form,
+    kept: &KeptRun,
+    machine: &Machine,
+    listing: &Listing,
+) -> Result<Output, Memory>
+    requires kept { IsViewable kept.now }
+    requires machine { IsMachineOf kept.now machine.now }
     ensures { IfOk result (λ out. HasProgram kept.now.text (λ P. out ≡ made (heading_of form kept.now.run ++ lists_text form P listing.now.tallies))) }
 {
-    let program = program_in(alloc, kept.text.as_slice())?;
     let mut text = heading(alloc, form, &kept.run)?;
-    push_lists(&mut text, form, program.program(), listing.table())?;
+    push_lists(&mut text, form, machine.program(), listing.table())?;
     Ok(done_with(text))
 }
 
 /// A run beside lists, as the options ask for it.
-fn beside(alloc: Global, options: &AccountOptions, kept: &KeptRun) -> Result<Output, Memory>
-    requires { IsViewable kept.now }
+fn beside(
+    alloc: Global,
+    options: &AccountOptions,
+    kept: &KeptRun,
+    machine: &mut Machine,
+) -> Result<Output, Memory>
+    requires kept { IsViewable kept.now }
+    requires machine { IsMachineOf kept.now machine.old }
     ensures { IfOk result (λ out. HasProgram kept.now.text (λ P. IsBeside P kept.now.sizes options.now kept.now.run out)) }
 {
-    let listing = listing_of_kept(alloc, options.by, kept)?;
-    printed(alloc, options.form, kept, &listing)
+    let listing = listing_of_kept(alloc, options.by, kept, machine)?;
+    print(alloc, options.form, kept, machine, &listing)
 }
 
 /// A trace's run beside lists.
@@ -83,9 +95,11 @@ pub(crate) fn lists_document(
     ensures made { IfOk result (view_made (view.Lists options.now) document.now) }
     ensures stop { IfErr result (IsStop (IsRefusedDocument document.now)) }
 {
-    let kept = kept_run(alloc, document)?;
-    let printed = beside(alloc, options, &kept);
-    // for the prover alone: one call drops the run, in place of the drops of all its parts at each exit
+    let told = document_run(alloc, document)?;
+    let DocumentRun { kept, mut machine } = told;
+    let printed = beside(alloc, options, &kept, &mut machine);
+    // for the prover alone: two calls drop the run and its machine, in place of the drops of all their parts at each exit
+    drop(machine);
     drop(kept);
     Ok(printed?)
 }

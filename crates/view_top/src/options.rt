@@ -1,9 +1,10 @@
+use dn_base::Sequence;
 use run_account::{Form, Grouping};
-use run_chart::Columns;
+use run_chart::{Columns, Fit, PlainRows};
 use state_text::Base;
 
 /// What is made of the trace, and with which options. Each mode has its own options, and ignores those of the other modes.
-#[derive(Clone, Copy)]
+#[derive(Drop)]
 pub enum View {
     /// The message chart of the run, as an SVG text.
     Chart(ChartOptions),
@@ -21,15 +22,30 @@ pub enum View {
     Data(PageOptions),
 }
 
-/// What the words ask of a chart.
+/// What the words ask of how a chart is drawn.
 #[derive(Clone, Copy)]
+pub struct PictureOptions {
+    /// Which cores and banks have a column.
+    pub columns: Columns,
+    /// Which plain instructions have rows.
+    pub plain: PlainRows,
+    /// How large the picture is.
+    pub fit: Fit,
+}
+
+/// What the words ask of a chart.
+#[derive(Drop)]
 pub struct ChartOptions {
     /// The number of the first event that has a row, from 0.
     pub first: u32,
     /// The greatest number of rows, from 1 to 4,096.
     pub rows: u32,
-    /// Which banks have a column.
-    pub columns: Columns,
+    /// How it is drawn.
+    pub picture: PictureOptions,
+    /// The words to which events with a row have to do, by their names with commas between them; empty for all.
+    pub words: Sequence<u8>,
+    /// The actors of these events, by their names with commas between them; empty for all.
+    pub actors: Sequence<u8>,
     /// Ticks of a core's own event, from 1 to 1,000,000.
     pub tick_core: u32,
     /// Ticks of a bank's event, from 1 to 1,000,000.

@@ -1,15 +1,15 @@
 //! The mode state: a state of a trace's run, and what is enabled there.
-ghost use Rattle.std.specs.Prelude.{◌≡◌, ◌≤◌, length, IfOk, IfErr};
+ghost use Rattle.std.specs.Prelude.{◌≡◌, ◌≤◌, length, Ok, IfOk, IfErr};
+ghost use Rattle.rv_assembler.specs.Source.{source};
 ghost use Rattle.run_replay.specs.Document.{IsTrace};
-ghost use Rattle.text_places.specs.Places.{text_places};
+ghost use Rattle.text_places.specs.Places as definition;
 ghost use Rattle.run_report.specs.Texts.{IsStop};
 ghost use Rattle.view_top.specs.declared.options.View.TheVariants as view;
 ghost use Rattle.view_top.specs.Answers.{status_at, view_made, IsStateShown, IsWithoutProgram};
-ghost use Rattle.view_top.specs.Kept.{IsFit};
 
 use crate::StateOptions;
 use crate::answering::{Output, output, refused_words};
-use crate::documents::{places_in, shape_of};
+use crate::documents::shape_of;
 use crate::status::ViewStatus;
 use checked_runs::trace_in;
 use dn_base::{Memory, Sequence};
@@ -18,7 +18,7 @@ use run_replay::Trace;
 use run_report::{Stop, checked_of};
 use state_text::state_at;
 use std::alloc::Global;
-use text_places::Places;
+use text_places::{Places, text_places};
 
 /// The status of a state before the event at `place`, if the event `asked` was asked for.
 fn status_at(asked: u32, place: u32) -> ViewStatus
@@ -40,7 +40,7 @@ fn state_before(
     checked: Checked,
 ) -> Result<Output, Memory>
     requires told { IsTrace trace.now }
-    requires places { places.now ≡ text_places trace.now.text }
+    requires places { places.now ≡ definition.text_places trace.now.text }
     requires within { options.now.event ≤ length trace.now.events }
     ensures { IfOk result (IsStateShown checked trace.now options.now) }
 {
@@ -62,16 +62,16 @@ fn state_in(
     checked: Checked,
 ) -> Result<Output, Memory>
     requires told { IsTrace trace.now }
-    requires text { IsFit trace.now.text }
+    requires program { source trace.now.text ≡ Ok checked }
     ensures { IfOk result (IsStateShown checked trace.now options.now) }
 {
     if options.event as usize > trace.events.len() {
         return refused_words(alloc);
     }
-    let located = places_in(alloc, trace.text.as_slice())?;
-    let shown = state_before(alloc, options, trace, &located.places, checked);
-    // for the prover alone: one call drops the names and the program, in place of the drops of all their parts at each exit
-    drop(located);
+    let places = text_places(alloc, trace.text.as_slice(), checked.program())?;
+    let shown = state_before(alloc, options, trace, &places, checked);
+    // for the prover alone: one call drops the places, in place of the drops of all their parts at each exit
+    drop(places);
     shown
 }
 

@@ -1,15 +1,33 @@
 //! The timing of a trace's run.
-ghost use Rattle.std.specs.Prelude.{◌≡◌, IfOk};
+ghost use Rattle.std.specs.Prelude.{◌≡◌, IfOk, OnOk};
 ghost use Rattle.run_timing.specs.Ticks.{AreWithinLimits};
 ghost use Rattle.run_report.specs.Texts.{HasProgram};
-ghost use Rattle.view_top.specs.Kept.{IsKeptTiming, IsViewable};
+ghost use Rattle.view_top.specs.Kept.{IsKeptTiming, IsMachineOf, IsViewable};
 
-use crate::documents::{KeptRun, program_in, shape_of};
+use crate::documents::{KeptRun, begin_again, program_in, shape_of};
 use dn_base::Memory;
-use run_timing::{Ticks, Timing, time_run};
+use dn_machine::Machine;
+use run_timing::{Ticks, Timing, time_events, time_run};
 use std::alloc::Global;
 
-/// The timing of a run, by these ticks.
+/// The timing of a run on its machine, by these ticks.
+pub(crate) fn timing_on(
+    alloc: Global,
+    kept: &KeptRun,
+    machine: &mut Machine,
+    ticks: &Ticks,
+) -> Result<Timing, Memory>
+    requires kept { IsViewable kept.now }
+    requires machine { IsMachineOf kept.now machine.old }
+    requires ticks { AreWithinLimits ticks.now }
+    ensures timing { IfOk result (λ timing. HasProgram kept.now.text (IsKeptTiming kept.now ticks.now timing)) }
+    ensures machine { OnOk result (IsMachineOf kept.now machine.new) }
+{
+    begin_again(alloc, kept, machine)?;
+    time_events(alloc, machine, kept.run.events.as_slice(), ticks)
+}
+
+/// The timing of a run whose machine is not at hand, by these ticks: the run's text is assembled again.
 pub(crate) fn timing_of(alloc: Global, kept: &KeptRun, ticks: &Ticks) -> Result<Timing, Memory>
     requires kept { IsViewable kept.now }
     requires ticks { AreWithinLimits ticks.now }

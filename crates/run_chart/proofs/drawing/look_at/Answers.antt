@@ -17,6 +17,7 @@ returns c =
       place = c.place_handled.ensures ∙ ap (λ (mails : List Mail). place_handled mails c.args.event) c.pool.ensures;
       actor = c.event_maker-actor.ensures;
       about = c.about.ensures;
+      need = c.needed_by.ensures;
       phase = ap {B = PhaseId} (λ (n : ℕ). record { 0 = n }) (c.phase.ensures ∙ ap (λ (k : Barrier). k.phase) c.keeper.ensures);
       mail = c.origin_of.ensures;
       end = c.ends_by.ensures;

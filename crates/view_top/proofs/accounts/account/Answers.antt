@@ -14,4 +14,4 @@ returns c =
     let tallies = c.in_ok-account.account.tallies in
     answer-is k (λ (P : ProgramParts). IsAccountOf P (shape_told P k.sizes) k.sizes.fuel k.run.events o.by tallies)
     (λ (P : ProgramParts). heading_of o.form k.run ++ account_text o.form P tallies) (λ (P : ProgramParts) (out : Output). IsAccount P k.sizes o k.run out)
-    (λ P out counted answer. record { tallies = tallies; counted = counted; answer = answer }) c.printed.result c.in_ok-account.ensures c.printed.ensures
+    (λ P out counted answer. record { tallies = tallies; counted = counted; answer = answer }) c.print.result c.in_ok-account.ensures.account c.print.ensures

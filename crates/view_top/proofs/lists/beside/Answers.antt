@@ -14,4 +14,4 @@ returns c =
     let tallies = c.in_ok-listing.listing.tallies in
     answer-is k (λ (P : ProgramParts). IsListingOf P (shape_told P k.sizes) k.sizes.fuel k.run.events o.by tallies)
     (λ (P : ProgramParts). heading_of o.form k.run ++ lists_text o.form P tallies) (λ (P : ProgramParts) (out : Output). IsBeside P k.sizes o k.run out)
-    (λ P out counted answer. record { tallies = tallies; counted = counted; answer = answer }) c.printed.result c.in_ok-listing.ensures c.printed.ensures
+    (λ P out counted answer. record { tallies = tallies; counted = counted; answer = answer }) c.print.result c.in_ok-listing.ensures.listing c.print.ensures

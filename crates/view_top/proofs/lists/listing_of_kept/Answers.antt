@@ -1,23 +1,20 @@
-use Rattle.std.proofs.Common.{List, refl}
-use Rattle.dn_base.specs.declared.ids.Shape.{Shape}
-use Rattle.region_table.specs.Program.{ProgramParts}
+use Rattle.std.proofs.Common.{List, length, sym, ap, subst, arith}
 use Rattle.message_net.specs.declared.event.Event.{Event}
-use Rattle.run_account.specs.Runs.{Listed}
-use Rattle.view_top.specs.Answers.{IsListingOf}
-use Rattle.checked_runs.specs.Documents.{shape_told}
-use Rattle.view_top.proofs.Kept.{fit, run-of-kept, made-of-kept}
+use Rattle.machine_rules.specs.Runs.{IsRun}
+use Rattle.view_top.proofs.Machines.{stays-ok, listing-made}
 use Rattle.view_top.proofs.lists.listing_of_kept.Goals as goal
 
-pub program_in-requires : goal.program_in-requires
-program_in-requires c = fit c.args.kept.now c.as_slice.result.now c.as_slice.ensures c.requires
+pub count-requires-clause-run : goal.count-requires-clause-run
+count-requires-clause-run c = subst (λ (es : List Event). IsRun c.begin_again.new.machine.state es) (sym c.as_slice.ensures) c.in_ok-begin_again.ensures.run
 
-pub counted-requires-clause-run : goal.counted-requires-clause-run
-counted-requires-clause-run c =
-    run-of-kept c.args.kept.now c.as_slice.result.now c.in_ok-program.program (shape_told c.in_ok-program.program c.args.kept.now.sizes) c.as_slice-2.result.now c.requires c.as_slice.ensures c.in_ok-program.ensures refl
-    c.as_slice-2.ensures
+pub count-requires-clause-few : goal.count-requires-clause-few
+count-requires-clause-few c =
+    omega (arith, c.in_ok-begin_again.ensures.made, ap (λ (es : List Event). length es) c.as_slice.ensures, c.requires.kept.few)
 
-pub returns : goal.returns
-returns c =
-    made-of-kept c.args.kept.now c.as_slice.result.now c.in_ok-program.program (shape_told c.in_ok-program.program c.args.kept.now.sizes) c.as_slice-2.result.now
-    (λ (P : ProgramParts) (s : Shape) (es : List Event) (listing : Listed). IsListingOf P s c.args.kept.now.sizes.fuel es c.args.by listing.tallies) c.counted.result c.as_slice.ensures c.in_ok-program.ensures refl
-    c.as_slice-2.ensures c.counted.ensures
+pub returns-clause-listing : goal.returns-clause-listing
+returns-clause-listing c =
+    listing-made c.args.kept.now c.begin_again.new.machine c.as_slice.result.now c.args.by c.count.result c.in_ok-begin_again.ensures.machine c.in_ok-begin_again.ensures.initial c.as_slice.ensures
+    c.count.ensures.listing
+
+pub returns-clause-machine : goal.returns-clause-machine
+returns-clause-machine c = stays-ok c.args.kept.now c.begin_again.new.machine c.count.new.machine c.count.result c.count.ensures.setting c.in_ok-begin_again.ensures.machine

@@ -1,21 +1,16 @@
-use Rattle.std.proofs.Common.{ℕ, List}
-use Rattle.dn_base.specs.declared.ids.Shape.{Shape}
-use Rattle.region_table.specs.Program.{ProgramParts}
+use Rattle.std.proofs.Common.{◌≤◌, List, length, sym, subst}
 use Rattle.message_net.specs.declared.event.Event.{Event}
-use Rattle.page_data.specs.Page.{IsPageOf}
-use Rattle.view_top.proofs.Kept.{fit, run-of-kept, made-of-kept}
+use Rattle.machine_rules.specs.Runs.{IsRun}
+use Rattle.view_top.proofs.Machines.{page-made}
 use Rattle.view_top.proofs.pages.bytes_of.Goals as goal
 
-pub program_in-requires : goal.program_in-requires
-program_in-requires c = fit c.args.kept.now c.as_slice.result.now c.as_slice.ensures c.requires.kept
-
 pub page_text-requires-clause-run : goal.page_text-requires-clause-run
-page_text-requires-clause-run c =
-    run-of-kept c.args.kept.now c.as_slice.result.now c.in_ok-program.program c.shape_of-shape.result c.as_slice-2.result.now c.requires.kept c.as_slice.ensures c.in_ok-program.ensures c.shape_of-shape.ensures
-    c.as_slice-2.ensures
+page_text-requires-clause-run c = subst (λ (es : List Event). IsRun c.begin_again.new.machine.state es) (sym c.as_slice.ensures) c.in_ok-begin_again.ensures.run
+
+pub page_text-requires-clause-few : goal.page_text-requires-clause-few
+page_text-requires-clause-few c = subst (λ (es : List Event). length es ≤ 25169664) (sym c.as_slice.ensures) c.requires.kept.few
 
 pub returns : goal.returns
 returns c =
-    made-of-kept c.args.kept.now c.as_slice.result.now c.in_ok-program.program c.shape_of-shape.result c.as_slice-2.result.now
-    (λ (P : ProgramParts) (s : Shape) (es : List Event) (bytes : List ℕ). IsPageOf P s c.args.kept.now.sizes.fuel es c.args.page.now bytes) c.page_text.result c.as_slice.ensures c.in_ok-program.ensures
-    c.shape_of-shape.ensures c.as_slice-2.ensures c.page_text.ensures
+    page-made c.args.kept.now c.begin_again.new.machine c.as_slice.result.now c.args.page.now c.page_text.result c.in_ok-begin_again.ensures.machine c.in_ok-begin_again.ensures.initial c.as_slice.ensures
+    c.page_text.ensures.text

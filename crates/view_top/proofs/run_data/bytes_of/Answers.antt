@@ -1,21 +1,16 @@
-use Rattle.std.proofs.Common.{ℕ, List}
-use Rattle.dn_base.specs.declared.ids.Shape.{Shape}
-use Rattle.region_table.specs.Program.{ProgramParts}
+use Rattle.std.proofs.Common.{◌≤◌, List, length, sym, subst}
 use Rattle.message_net.specs.declared.event.Event.{Event}
-use Rattle.page_data.specs.Data.{IsDataOf}
-use Rattle.view_top.proofs.Kept.{fit, run-of-kept, made-of-kept}
+use Rattle.machine_rules.specs.Runs.{IsRun}
+use Rattle.view_top.proofs.Machines.{data-made}
 use Rattle.view_top.proofs.run_data.bytes_of.Goals as goal
 
-pub program_in-requires : goal.program_in-requires
-program_in-requires c = fit c.args.kept.now c.as_slice.result.now c.as_slice.ensures c.requires.kept
-
 pub run_data_text-requires-clause-run : goal.run_data_text-requires-clause-run
-run_data_text-requires-clause-run c =
-    run-of-kept c.args.kept.now c.as_slice.result.now c.in_ok-program.program c.shape_of-shape.result c.as_slice-2.result.now c.requires.kept c.as_slice.ensures c.in_ok-program.ensures c.shape_of-shape.ensures
-    c.as_slice-2.ensures
+run_data_text-requires-clause-run c = subst (λ (es : List Event). IsRun c.begin_again.new.machine.state es) (sym c.as_slice.ensures) c.in_ok-begin_again.ensures.run
+
+pub run_data_text-requires-clause-few : goal.run_data_text-requires-clause-few
+run_data_text-requires-clause-few c = subst (λ (es : List Event). length es ≤ 25169664) (sym c.as_slice.ensures) c.requires.kept.few
 
 pub returns : goal.returns
 returns c =
-    made-of-kept c.args.kept.now c.as_slice.result.now c.in_ok-program.program c.shape_of-shape.result c.as_slice-2.result.now
-    (λ (P : ProgramParts) (s : Shape) (es : List Event) (bytes : List ℕ). IsDataOf P s c.args.kept.now.sizes.fuel es c.args.told.now bytes) c.run_data_text.result c.as_slice.ensures c.in_ok-program.ensures
-    c.shape_of-shape.ensures c.as_slice-2.ensures c.run_data_text.ensures
+    data-made c.args.kept.now c.begin_again.new.machine c.as_slice.result.now c.args.told.now c.run_data_text.result c.in_ok-begin_again.ensures.machine c.in_ok-begin_again.ensures.initial c.as_slice.ensures
+    c.run_data_text.ensures.text

@@ -1,21 +1,20 @@
-use Rattle.std.proofs.Common.{ℕ, List}
-use Rattle.dn_base.specs.declared.ids.Shape.{Shape}
-use Rattle.region_table.specs.Program.{ProgramParts}
+use Rattle.std.proofs.Common.{◌≤◌, List, length, sym, subst}
 use Rattle.message_net.specs.declared.event.Event.{Event}
-use Rattle.run_timing.specs.Finishes.{AreFinishesOf}
-use Rattle.view_top.proofs.Kept.{fit, run-of-kept, made-of-kept}
+use Rattle.machine_rules.specs.Runs.{IsRun}
+use Rattle.view_top.proofs.Machines.{stays-after, finishes-made}
 use Rattle.view_top.proofs.run_data.finishes_of.Goals as goal
 
-pub program_in-requires : goal.program_in-requires
-program_in-requires c = fit c.args.kept.now c.as_slice.result.now c.as_slice.ensures c.requires.kept
+pub finish_events-requires-clause-run : goal.finish_events-requires-clause-run
+finish_events-requires-clause-run c = subst (λ (es : List Event). IsRun c.begin_again.new.machine.state es) (sym c.as_slice.ensures) c.in_ok-begin_again.ensures.run
 
-pub finish_run-requires-clause-run : goal.finish_run-requires-clause-run
-finish_run-requires-clause-run c =
-    run-of-kept c.args.kept.now c.as_slice.result.now c.in_ok-program.program c.shape_of-shape.result c.as_slice-2.result.now c.requires.kept c.as_slice.ensures c.in_ok-program.ensures c.shape_of-shape.ensures
-    c.as_slice-2.ensures
+pub finish_events-requires-clause-few : goal.finish_events-requires-clause-few
+finish_events-requires-clause-few c = subst (λ (es : List Event). length es ≤ 25169664) (sym c.as_slice.ensures) c.requires.kept.few
 
-pub returns : goal.returns
-returns c =
-    made-of-kept c.args.kept.now c.as_slice.result.now c.in_ok-program.program c.shape_of-shape.result c.as_slice-2.result.now
-    (λ (P : ProgramParts) (s : Shape) (es : List Event) (finishes : List ℕ). AreFinishesOf P s c.args.kept.now.sizes.fuel es c.args.ticks.now finishes) c.finish_run.result c.as_slice.ensures c.in_ok-program.ensures
-    c.shape_of-shape.ensures c.as_slice-2.ensures c.finish_run.ensures
+pub returns-clause-finishes : goal.returns-clause-finishes
+returns-clause-finishes c =
+    finishes-made c.args.kept.now c.begin_again.new.machine c.as_slice.result.now c.args.ticks.now c.finish_events.result c.in_ok-begin_again.ensures.machine c.in_ok-begin_again.ensures.initial c.as_slice.ensures
+    c.finish_events.ensures.finishes
+
+pub returns-clause-machine : goal.returns-clause-machine
+returns-clause-machine c =
+    stays-after c.args.kept.now c.begin_again.new.machine c.finish_events.new.machine c.as_slice.result.now c.finish_events.result c.finish_events.ensures.leads c.in_ok-begin_again.ensures.machine

@@ -3,9 +3,8 @@ use Rattle.rv_assembler.specs.Source.{source}
 use Rattle.view_top.proofs.Kept.{state-shown}
 use Rattle.view_top.proofs.states.show_state.Goals as goal
 
-pub state_in-requires-clause-text : goal.state_in-requires-clause-text
-state_in-requires-clause-text c =
-    record { program = c.in_ok-checked.checked; is = ap source (sym c.as_slice.ensures) ∙ c.in_ok-checked.ensures.ok; checked = c.in_ok-checked.ensures.checked; holds = tt }
+pub state_in-requires-clause-program : goal.state_in-requires-clause-program
+state_in-requires-clause-program c = ap source (sym c.as_slice.ensures) ∙ c.in_ok-checked.ensures.ok
 
 pub returns-clause-made : goal.returns-clause-made
 returns-clause-made c =

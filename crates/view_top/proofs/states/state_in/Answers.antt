@@ -1,10 +1,10 @@
-use Rattle.std.proofs.Common.{ap, sym, subst, ◌∙◌}
+use Rattle.std.proofs.Common.{Ok, ap, sym, ◌∙◌}
+use Rattle.rv_assembler.specs.Source.{source}
 use Rattle.text_places.specs.Places.{text_places}
-use Rattle.view_top.specs.Kept.{IsFit}
 use Rattle.view_top.proofs.states.state_in.Goals as goal
 
-pub places_in-requires : goal.places_in-requires
-places_in-requires c = subst IsFit (sym c.as_slice.ensures) c.requires.text
+pub text_places-requires : goal.text_places-requires
+text_places-requires c = ap source c.as_slice.ensures ∙ c.requires.program ∙ ap Ok (sym c.program.ensures.value)
 
 pub state_before-shown-requires-clause-places : goal.state_before-shown-requires-clause-places
-state_before-shown-requires-clause-places c = c.in_ok-located.ensures.places ∙ ap text_places c.as_slice.ensures
+state_before-shown-requires-clause-places c = c.in_ok-places.ensures ∙ ap text_places c.as_slice.ensures

@@ -10,5 +10,6 @@ invariant-loop-event l =
       leads : account_of_run l.machine.state l.self (drop l.event-index l.events) ≡ account_of_run l.fn.machine.state l.fn.self l.events;
       comes : IsRun l.machine.state (drop l.event-index l.events) → IsRun l.fn.machine.state l.events;
       came : IsRun l.fn.machine.state l.events → IsRun l.machine.state (drop l.event-index l.events);
+      setting : l.machine.state.setting ≡ l.fn.machine.state.setting;
       made : l.machine.made ≡ l.fn.machine.made + l.event-index;
     }

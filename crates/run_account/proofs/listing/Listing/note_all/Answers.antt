@@ -1,7 +1,7 @@
-use Rattle.std.proofs.Common.{◌≡◌, ◌+◌, ◌<◌, length, Ok, ap, arith}
+use Rattle.std.proofs.Common.{◌≡◌, ◌+◌, ◌<◌, length, Ok, ap, ◌∙◌, arith}
 use Rattle.machine_rules.specs.Runs.{IsRun}
 use Rattle.run_account.specs.Runs.{count_of_run}
-use Rattle.run_account.proofs.Whole.{tried-some, one-comes, one-came}
+use Rattle.run_account.proofs.Whole.{tried-some, setting-next, one-comes, one-came}
 use Rattle.run_account.proofs.Steps.{one-led}
 use Rattle.run_account.proofs.listing.Listing.note_all.Goals as goal
 
@@ -21,5 +21,6 @@ loop-event-preserved c =
       came =
           one-came c.loop-event.machine.state c.try_step.new.self.state (IsRun c.args.machine.now.state c.args.events.now)
           c.args.events.now c.loop-event.event-index _ inside stepped.state c.loop-event.invariant.came;
+      setting = setting-next c.loop-event.machine.state c.try_step.new.self.state _ stepped.state ∙ c.loop-event.invariant.setting;
       made = omega (arith, more, c.loop-event.invariant.made);
     }

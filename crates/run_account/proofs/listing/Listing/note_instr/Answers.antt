@@ -6,10 +6,10 @@ use Rattle.run_account.proofs.listing.Listing.note_instr.Goals as goal
 pub returns-in_ok-note_access : goal.returns-in_ok-note_access
 returns-in_ok-note_access c =
     c.in_ok-note_access.ensures
-    ∙ sym (after_access c.args.machine.now.state c.args.core c.args.self.now c.in-Some.access (sym c.retired.ensures ∙ c.in-Some.is))
+    ∙ sym (after_access c.args.machine.now.state c.args.core c.args.self.now c.in-Some.access (sym c.access_retired.ensures ∙ c.in-Some.is))
 
 pub returns-in_default : goal.returns-in_default
-returns-in_default c = sym (after_other c.args.machine.now.state c.args.core c.args.self.now (sym c.retired.ensures ∙ c.in_default.is))
+returns-in_default c = sym (after_other c.args.machine.now.state c.args.core c.args.self.now (sym c.access_retired.ensures ∙ c.in_default.is))
 
 pub returns-else-core-shape : goal.returns-else-core-shape
 returns-else-core-shape c =

@@ -7,7 +7,7 @@ use Rattle.run_chart.proofs.parts.Chart.shown_below.Given as goal
 abbrev pub invariant-loop-other : goal.invariant-loop-other
 invariant-loop-other l =
     record {
-      within : l.other ≤ 16;
-      count : l.count ≡ count_by (λ (b : ℕ). nat_lt b l.bank && is_shown l.self.shown b) (range_with_len 0 l.other);
+      within : l.other ≤ 32;
+      count : l.count ≡ count_by (λ (i : ℕ). nat_lt i l.index && is_shown l.self.shown i) (range_with_len 0 l.other);
       most : l.count ≤ l.other;
     }
