@@ -1,4 +1,4 @@
--- `closed` keeps nothing at null.
+-- `without_machine` keeps nothing at null.
 use Rattle.std.proofs.Common.{◌≡◌, List, [], ◌∷◌, ◌++◌, refl, sym, subst}
 use mir.Val.{Val, vnull, has_ty}
 use base.Logic.{SProp, ent, emp, id⊢}
@@ -27,13 +27,13 @@ use Rattle.std_alloc.proofs.ResultValues.{and_tt}
 use Rattle.std.proofs.raw_atomic.Walks.{proved_at, leaves}
 use Rattle.denovo_c.proofs.Values.{both}
 use Rattle.denovo_c.proofs.Handles.{R, Z, closed_in}
-use Rattle.denovo_c.specs.contracts.handle.Handle.closed.{ended, clauses}
-use Rattle.denovo_c.specs.contracts.handle.Handle.closed.Key.{name as #self}
+use Rattle.denovo_c.specs.contracts.handle.Handle.without_machine.{ended, clauses}
+use Rattle.denovo_c.specs.contracts.handle.Handle.without_machine.Key.{name as #self}
 use Rattle.denovo_c.proofs.handle.Handle.without_machine.Statement.{statement}
 use Rattle.denovo_c.proofs.handle.Handle.without_machine.Code as code
 
-pub closed_spec : {M : Type 1} → statement M
-closed_spec 𝓤 𝓛 𝓜 𝓡 wired =
+pub without_machine_spec : {M : Type 1} → statement M
+without_machine_spec 𝓤 𝓛 𝓜 𝓡 wired =
     let H = 𝓛.H in let 𝓣 = tables 𝓤 H 𝓜 𝓡 𝓡.env in let En = ended in let c = clauses 𝓛 𝓜.mem 𝓡.returns in let fn = code.function in
     let LZ = heap_laws.the_row_laws in let hs : Stays En.signature.params En.kept = (stay_dropped (plain (λ _. Z)) En.kept.0, tt) in
     proved_at 𝓛 En hs c 𝓜 𝓡 (Goes-dropped 𝓛 0 (plain (λ _. Z)) En.kept.0 (λ κs x f. refl), tt) #self fn (code.unfolded 𝓤 H 𝓜 𝓡 wired) (λ z are.
