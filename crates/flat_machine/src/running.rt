@@ -162,6 +162,9 @@ impl Running<'_> {
         if self.state.end.is_some() {
             return Ok(false);
         }
+        if self.state.compute_in(program, fuel, code) {
+            return Ok(true);
+        }
         let next = self.state.next_in(program, self.decl, fuel, code);
         match next.need {
             Need::Local | Need::Release { .. } => {

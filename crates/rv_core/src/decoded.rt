@@ -1,4 +1,4 @@
-ghost use Rattle.std.specs.Prelude.{◌≡◌, ◌↔◌, ◌≤◌, true, false, None, length, slice_get, option_copied, IfOk};
+ghost use Rattle.std.specs.Prelude.{◌≡◌, ◌↔◌, ◌≤◌, ◌+◌, true, false, None, length, slice_get, option_copied, IfOk};
 ghost use Rattle.region_table.specs.declared.declared.TaskDecl.{TaskDecl as ATask};
 ghost use Rattle.rv_core.specs.Decoded.{decoded_entry, found_at, IsDecoded};
 ghost use Rattle.rv_core.specs.Kinds.{Allowed, EndsByFuel, IsAdvance, IsLoad, IsStore};
@@ -101,6 +101,30 @@ impl TaskState {
         // for the proof alone: the read brings the program's invariant, by which it has at most 16,384 code words
         let _code = &program.code;
         self.look_known(program, task, fuel, code.at(self.pc))
+    }
+
+    /// Completes the task's next instruction by the decoded code of the program, if it needs nothing besides the task's own
+    /// registers. Otherwise it does nothing. Returns whether it completed one.
+    ///
+    /// Such an instruction depends on no declaration, and its need needn't be asked for. The task must not have ended.
+    #[inline(always)]
+    pub fn compute_in(&mut self, program: &Program, fuel: u32, code: &DecodedCode) -> bool
+        requires open { self.old.end ≡ None }
+        requires retired { self.old.retired ≤ fuel }
+        requires code { IsDecoded program.now code.now }
+        ensures local { (d : ATask) → (result ≡ true) ↔ (need_of program.now d fuel self.old ≡ NeedsNothing) }
+        ensures done { result ≡ true → self.new ≡ advanced program.now self.old }
+        ensures counted { result ≡ true → self.new.retired ≡ self.old.retired + 1 }
+        ensures left { result ≡ false → self.new ≡ self.old }
+        ensures within { self.new.retired ≤ fuel }
+        ensures open { self.new.end ≡ None }
+    {
+        // for the proof alone: the read brings the program's invariant, by which it has at most 16,384 code words
+        let _code = &program.code;
+        match code.at(self.pc) {
+            Some(instr) if self.retired != fuel => self.compute_by(instr),
+            _ => false,
+        }
     }
 }
 
@@ -222,10 +246,7 @@ impl DecodedProgram {
         ensures done { result ≡ true → state.new ≡ advanced self.now state.old }
         ensures left { result ≡ false → state.new ≡ state.old }
     {
-        match self.instr(state) {
-            Some(instr) if state.retired != fuel => state.compute_by(instr),
-            _ => false,
-        }
+        state.compute_in(&self.program, fuel, &self.code)
     }
 
     /// The same as `TaskState::advance`, without decoding the word again: completes the next instruction of a task. The task

@@ -205,6 +205,7 @@ impl TaskState {
         requires { self.old.retired < 4294967295 }
         ensures local { (P : ProgramParts) (d : ATask) → (result ≡ true) ↔ (instr_need P d self.old instr.now ≡ NeedsNothing) }
         ensures done { result ≡ true → self.new ≡ after_instr self.old instr.now }
+        ensures counted { result ≡ true → self.new.retired ≡ self.old.retired + 1 }
         ensures left { result ≡ false → self.new ≡ self.old }
     {
         match *instr {
