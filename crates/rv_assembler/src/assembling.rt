@@ -13,11 +13,10 @@ use crate::emission::emission_at;
 use crate::fault::SourceFault;
 use crate::finishing::finish;
 use crate::names::{Names, survey};
-use crate::parsing::{Reading, read_lines, version_line};
+use crate::parsing::{Reading, read_text, version_of};
 use crate::testing::{early_fault, over_limit};
 use dn_base::MOST_OF_TEXT;
 use region_table::Program;
-use src_text::tokens;
 use std::alloc::Global;
 
 /// Adds a line, or gives its first fault.
@@ -72,10 +71,8 @@ fn add_text(alloc: Global, text: &[u8], draft: &mut Draft) -> Result<(), SourceF
     ensures ok { OnOk result (draft_of text.now ≡ Ok draft.new) }
     ensures err { IfErr result (λ f. f ≢ NoMemory → draft_of text.now ≡ Err f) }
 {
-    let tokenized = tokens(alloc, text)?;
-    let lines = tokenized.as_slice();
-    let version = version_line(text, lines);
-    let read = read_lines(alloc, version, text, lines)?;
+    let version = version_of(alloc, text)?;
+    let read = read_text(alloc, version, text)?;
     let readings = read.as_slice();
     let names = survey(alloc, text, readings)?;
     add_lines(alloc, 0 < version, text, &names, draft, readings)

@@ -1,5 +1,6 @@
 //! What a line says: its label and its statement.
-ghost use Rattle.std.specs.Prelude.{◌≡◌, ◌≤◌, ◌&&◌, not, if◌then◌else◌, Err, IfOk, map};
+ghost use Rattle.std.specs.Prelude.{◌≡◌, ◌≤◌, ◌&&◌, not, if◌then◌else◌, Err, IfOk, length, map};
+ghost use Rattle.src_text.specs.Line.{lines_of};
 ghost use Rattle.rv_assembler.specs.declared.fault.SourceFault.TheVariants.{UnknownWord};
 ghost use Rattle.rv_assembler.specs.Shape.{knows_word, kind_for, is_name, is_colon};
 ghost use Rattle.rv_assembler.specs.Operand.{token_at};
@@ -12,8 +13,8 @@ use crate::number::wrap;
 use crate::operand::{bytes, number_at, token_at};
 use crate::shape::{is_name, is_plain, kind, knows};
 use crate::statement::{Effect, Extent, Family, Statement};
-use dn_base::Memory;
-use src_text::{Line, LineFault, Token, TokenKind};
+use dn_base::{MOST_OF_TEXT, Memory};
+use src_text::{Line, LineFault, LineReader, Token, TokenKind, map_lines};
 use std::alloc::Global;
 
 /// What a line of good form says, and its number.
@@ -243,17 +244,12 @@ pub fn read_line(version: u32, text: &[u8], line: &Line) -> Reading
     }
 }
 
-/// What each line says. `version` is the number of the version line, or 0 in a text of version 1.
-pub(crate) fn read_lines(
-    alloc: Global,
-    version: u32,
-    text: &[u8],
-    lines: &[Line],
-) -> Result<Vec<Reading>, Memory>
-    ensures { IfOk result (λ readings. readings.items ≡ map (reading_of version text.now) lines.now) }
+/// What each line of a text says. `version` is the number of the version line, or 0 in a text of version 1.
+pub(crate) fn read_text(alloc: Global, version: u32, text: &[u8]) -> Result<Vec<Reading>, Memory>
+    requires { length text.now ≤ MOST_OF_TEXT }
+    ensures { IfOk result (λ readings. readings.items ≡ map (reading_of version text.now) (lines_of text.now)) }
 {
-    let readings = lines.iter().map(|line| read_line(version, text, line));
-    Ok(readings.collect(alloc)?)
+    map_lines(alloc, text, |line| read_line(version, text, line))
 }
 
 /// Whether the line says that the text is of version 2.
@@ -274,18 +270,39 @@ fn is_blank_line(line: &Line) -> bool
     line.fault.is_none() && line.tokens.len() == 0
 }
 
+/// The number of the line, if it says that the text is of version 2; 0 otherwise.
+fn version_in(text: &[u8], line: &Line) -> u32
+    ensures { result ≡ (if is_version text.now line.now then line.now.number else 0) }
+{
+    if is_version(text, line) {
+        line.number
+    } else {
+        0
+    }
+}
+
 /// The number of the version line, or 0 in a text of version 1.
 pub fn version_line(text: &[u8], lines: &[Line]) -> u32
     ensures { result ≡ version_line text.now lines.now }
 {
     for line in lines {
         if !is_blank_line(line) {
-            return if is_version(text, line) {
-                line.number
-            } else {
-                0
-            };
+            return version_in(text, line);
         }
     }
     0
+}
+
+/// The number of a text's version line, or 0 in a text of version 1. It reads no further than the first line that isn't blank.
+pub(crate) fn version_of(alloc: Global, text: &[u8]) -> Result<u32, Memory>
+    requires { length text.now ≤ MOST_OF_TEXT }
+    ensures { IfOk result (λ version. version ≡ version_line text.now (lines_of text.now)) }
+{
+    let mut reader = LineReader::new(text);
+    while let Some(line) = reader.next(alloc)? {
+        if !is_blank_line(&line) {
+            return Ok(version_in(text, &line));
+        }
+    }
+    Ok(0)
 }

@@ -1,5 +1,5 @@
 -- The lines of a text.
-use Rattle.std.specs.Prelude.{ℕ, ◌+◌, Bool, ◌||◌, List, [], ◌∷◌, length, nat_lt, if◌then◌else◌, Option, Some, None, filter_map}
+use Rattle.std.specs.Prelude.{◌≡◌, ℕ, ◌+◌, Bool, ◌||◌, List, [], ◌∷◌, length, nat_lt, if◌then◌else◌, Option, Some, None, filter_map}
 use Rattle.std.specs.List.{list_any}
 use Rattle.src_text.specs.Byte.{is_newline, is_bad}
 use Rattle.src_text.specs.Lexeme.{before_comment, lexemes_of, is_bad_number, token_of}
@@ -47,3 +47,8 @@ numbered number place (l ∷ ls) = line_of number place l ∷ numbered (number +
 -- the lines of a text
 abbrev pub lines_of : List ℕ → List Line
 lines_of text = numbered 1 0 (cut text)
+
+-- of lines that are left, the next one, if there is one, and those that are left then
+abbrev pub IsNextLine : List Line → List Line → Option Line → Type 0
+IsNextLine before after None = (before ≡ []) × (after ≡ [])
+IsNextLine before after (Some line) = before ≡ line ∷ after

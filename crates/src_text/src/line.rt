@@ -1,13 +1,15 @@
 ghost use Rattle.std.specs.Prelude.{◌≡◌, ◌<◌, ◌≤◌, ◌+◌, ◌^◌, [], length, IfOk, Some};
-ghost use Rattle.std.specs.List.{before_first, list_any};
+ghost use Rattle.std.specs.List.{before_first, list_any, AllZip};
+ghost use Rattle.std.specs.Fn.{FnReturnsAt};
 ghost use Rattle.src_text.specs.Byte.{is_bad, is_newline};
 ghost use Rattle.src_text.specs.Lexeme.{before_comment};
-ghost use Rattle.src_text.specs.Line.{is_over_limit, line_of, lines_of};
+ghost use Rattle.src_text.specs.Line.{is_over_limit, line_of, lines_of, IsNextLine};
 
 use crate::byte::is_bad;
 use crate::token::{Token, scan};
 use dn_base::{Memory, Sequence};
 use std::alloc::Global;
+use std::marker::Model;
 
 /// What is wrong with a line. The first of these that it has is reported.
 #[derive(Clone, Copy, PartialEq, Eq)]
@@ -106,12 +108,85 @@ fn read_line(alloc: Global, number: u32, start: usize, line: &[u8]) -> Result<Li
     })
 }
 
-/// All lines of a text of at most 1,048,576 bytes, in order.
+/// Reads the lines of a text one after the other, so that they needn't all be kept. Contracts see the lines that are left.
 ///
 /// Each newline (byte 10) ends a line. What follows the last newline is a line only if it has a byte. Space, tab and carriage
 /// return are blanks. `#` begins a comment up to the end of the line, which may have any bytes. A name begins with a letter,
 /// `_` or `.`, and a number with a digit or `-`; both include all letters, digits, `_` and `.` that follow. `,`, `:`, `(` and
 /// `)` are tokens by themselves. A line with a fault has no tokens.
+#[derive(Drop)]
+pub struct LineReader<'t> {
+    text: &'t [u8],
+    /// The number of the next line, and the place where it begins.
+    number: u32,
+    start: usize,
+}
+
+impl<'t> Model for LineReader<'t> {
+    ghost use Rattle.std.specs.Prelude.{List, ◌≤◌, ◌+◌, drop, length};
+    ghost use Rattle.src_text.specs.declared.line.Line.{Line};
+    ghost use Rattle.src_text.specs.Line.{cut, numbered};
+
+    ghost Value = { List Line };
+
+    ghost view = { λ r. numbered r.number r.start (cut (drop r.start r.text.now)) };
+
+    ghost invariant = { λ r. (r.number ≤ r.start + 1) × (r.start ≤ length r.text.now + 1) × (length r.text.now ≤ 1048576) };
+}
+
+impl<'t> LineReader<'t> {
+    /// Before the first line of a text of at most 1,048,576 bytes. Takes no memory.
+    pub fn new(text: &'t [u8]) -> LineReader<'t>
+        requires { length text.now ≤ 1048576 }
+        ensures { result ≡ lines_of text.now }
+    {
+        LineReader {
+            text,
+            number: 1,
+            start: 0,
+        }
+    }
+
+    /// The next line, or None behind the last one.
+    ///
+    /// # Errors
+    /// `Memory` if there is no room for its tokens.
+    pub fn next(&mut self, alloc: Global) -> Result<Option<Line>, Memory>
+        ensures { IfOk result (IsNextLine self.old self.new) }
+    {
+        if self.start >= self.text.len() {
+            return Ok(None);
+        }
+        let line = first_line(&self.text[self.start..]);
+        let read = read_line(alloc, self.number, self.start, line)?;
+        self.number += 1;
+        self.start += line.len() + 1;
+        Ok(Some(read))
+    }
+}
+
+/// What `f` makes of each line of a text of at most 1,048,576 bytes, in order. One line at a time has its tokens.
+///
+/// # Errors
+/// `Memory` if there is no room for the tokens of a line, or for the list.
+pub fn map_lines<T: Drop, F: Fn(&Line) -> T>(
+    alloc: Global,
+    text: &[u8],
+    f: F,
+) -> Result<Vec<T>, Memory>
+    requires short { length text.now ≤ 1048576 }
+    requires calls { F.IsAlwaysCallable f }
+    ensures { IfOk result (λ made. AllZip (FnReturnsAt F.Fn f) (lines_of text.now) made.items) }
+{
+    let mut made = Vec::new(alloc);
+    let mut reader = LineReader::new(text);
+    while let Some(line) = reader.next(alloc)? {
+        made.push(f(&line))?;
+    }
+    Ok(made)
+}
+
+/// All lines of a text of at most 1,048,576 bytes, in order, as `LineReader` reads them.
 ///
 /// # Errors
 /// `Memory` if there is no room for the lines.
@@ -120,13 +195,9 @@ pub fn tokens(alloc: Global, text: &[u8]) -> Result<Vec<Line>, Memory>
     ensures { IfOk result (λ lines. lines.items ≡ lines_of text.now) }
 {
     let mut lines = Vec::new(alloc);
-    let mut number = 1;
-    let mut start = 0;
-    while start < text.len() {
-        let line = first_line(&text[start..]);
-        lines.push(read_line(alloc, number, start, line)?)?;
-        number += 1;
-        start += line.len() + 1;
+    let mut reader = LineReader::new(text);
+    while let Some(line) = reader.next(alloc)? {
+        lines.push(line)?;
     }
     Ok(lines)
 }
