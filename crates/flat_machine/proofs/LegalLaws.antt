@@ -98,7 +98,7 @@ past-free P fuel lock gs F e k d within =
 -- ---- which task takes a grant
 
 -- what passes a test stands at the place that is found
-found : (p : Started → Bool) (xs : List Started) (i : ℕ) → position p xs ≡ Some i → (r : Started) × (IsAmong xs r × (p r ≡ true))
+pub found : (p : Started → Bool) (xs : List Started) (i : ℕ) → position p xs ≡ Some i → (r : Started) × (IsAmong xs r × (p r ≡ true))
 found p [] i e = absurd (none-some i e)
 found p (x ∷ xs) i e =
     let at' = position-Some p (x ∷ xs) i x e in
@@ -112,13 +112,13 @@ finds p xs r among passes none =
     true≢false (sym passes ∙ ap p among.1.1 ∙ fails)
 
 -- a task that can take a grant waits for its lock, which no task of the phase holds, and the grant names its phase and core
-record Takes (P : ProgramParts) (fuel : ℕ) (tasks : List Started) (g : Grant) (r : Started) : Type 0 where
-  phase : r.phase.0 ≡ g.phase.0
-  named : r.decl.core ≡ g.core
-  waits : wish P fuel r ≡ Some (need.TheVariants.Acquire g.lock)
-  free : is_free tasks g.lock.0 ≡ true
+pub record Takes (P : ProgramParts) (fuel : ℕ) (tasks : List Started) (g : Grant) (r : Started) : Type 0 where
+  pub phase : r.phase.0 ≡ g.phase.0
+  pub named : r.decl.core ≡ g.core
+  pub waits : wish P fuel r ≡ Some (need.TheVariants.Acquire g.lock)
+  pub free : is_free tasks g.lock.0 ≡ true
 
-takes : (P : ProgramParts) (fuel : ℕ) (tasks : List Started) (g : Grant) (r : Started) → can_take P fuel tasks g r ≡ true → Takes P fuel tasks g r
+pub takes : (P : ProgramParts) (fuel : ℕ) (tasks : List Started) (g : Grant) (r : Started) → can_take P fuel tasks g r ≡ true → Takes P fuel tasks g r
 takes P fuel tasks g r e = by_wish (wish P fuel r) refl e
   where
     by_free : (lock : LockId) → wish P fuel r ≡ Some (need.TheVariants.Acquire lock) → (b : Bool) → is_free tasks lock.0 ≡ b

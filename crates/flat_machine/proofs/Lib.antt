@@ -20,3 +20,4 @@ pub mod LeastLaws
 pub mod RefusedLemmas
 pub mod LockOrderLaws
 pub mod MoreFuel
+pub mod AcquireLaws

@@ -393,13 +393,18 @@ all-behind : (Q : Started → Type 0) (xs ys : List Started) → All Q (xs ++ ys
 all-behind Q [] ys all = all
 all-behind Q (x ∷ xs) ys all = all-behind Q xs ys (All-tail Q x (xs ++ ys) all)
 
-pub done-same : (P : ProgramParts) (fuel more : ℕ) (gs : List Grant) (e : FlatEnd) → fuel ≤ more → flat_end P fuel gs ≡ Some e → e.ending.outcome ≡ outcome.TheVariants.Done → flat_end P more gs ≡ Some e
-done-same P fuel more gs e most ends done =
+-- a run at whose end no task is out of fuel
+pub unspent-same : (P : ProgramParts) (fuel more : ℕ) (gs : List Grant) (e : FlatEnd) → fuel ≤ more → flat_end P fuel gs ≡ Some e → All (λ (t : TaskEnd). is_spent t.end ≡ false) e.ending.tasks → flat_end P more gs ≡ Some e
+unspent-same P fuel more gs e most ends none =
     let h = run-ended P fuel gs e ends in
     let F : Flat = h.last in
     let rest = run-resting P fuel gs F h.leads in
-    let shows : All (λ (t : TaskEnd). is_spent t.end ≡ false) (map (task_end P fuel) (F.past ++ F.tasks)) = subst (All (λ (t : TaskEnd). is_spent t.end ≡ false)) h.tasks (none-spent e.ending.tasks (sym h.outcome ∙ done)) in
+    let shows : All (λ (t : TaskEnd). is_spent t.end ≡ false) (map (task_end P fuel) (F.past ++ F.tasks)) = subst (All (λ (t : TaskEnd). is_spent t.end ≡ false)) h.tasks none in
     let all = All-weaker (λ (r : Started). is_spent (task_end P fuel r).end ≡ false) Unspent (shown-unspent P fuel) (F.past ++ F.tasks) (mapped (task_end P fuel) (λ (t : TaskEnd). is_spent t.end ≡ false) (F.past ++ F.tasks) shows) in
     let leads = run-same P fuel more gs F most h.leads (all-behind Unspent F.past F.tasks all) in
     let is : flat_end_of P fuel F ≡ e = same_Some (flat_end_of P fuel F) e (sym (whole-ends P fuel gs F h.leads h.whole) ∙ ends) in
     whole-ends P more gs F leads (whole-same P fuel more F most rest ∙ h.whole) ∙ ap Some (flat_end-same P fuel more F most rest ∙ is)
+
+pub done-same : (P : ProgramParts) (fuel more : ℕ) (gs : List Grant) (e : FlatEnd) → fuel ≤ more → flat_end P fuel gs ≡ Some e → e.ending.outcome ≡ outcome.TheVariants.Done → flat_end P more gs ≡ Some e
+done-same P fuel more gs e most ends done =
+    unspent-same P fuel more gs e most ends (none-spent e.ending.tasks (sym (run-ended P fuel gs e ends).outcome ∙ done))

@@ -7,3 +7,4 @@ pub mod Ending
 pub mod Laws
 pub mod Refused
 pub mod LockOrder
+pub mod Acquires

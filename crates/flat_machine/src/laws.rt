@@ -15,7 +15,7 @@ ghost use Rattle.flat_machine.specs.declared.ending.FlatEnd.{FlatEnd};
 ghost use Rattle.flat_machine.specs.Step.{Started, At, wish, flat_step, segment, IsWithin};
 ghost use Rattle.flat_machine.specs.Phases.{Flat, has_finished, settled, initial_flat};
 ghost use Rattle.flat_machine.specs.Grants.{is_free, grant_of, go_on, with_task, so_far, grants_are_whole, granted, granted_if, IsLeast};
-ghost use Rattle.rv_core.specs.Ending.{is_waiting};
+ghost use Rattle.rv_core.specs.Ending.{is_waiting, is_spent};
 ghost use Rattle.flat_machine.specs.Ending.{flat_end_of, flat_end};
 ghost use Rattle.flat_machine.specs.LockOrder.{IsLockOrder};
 ghost use Rattle.flat_machine.specs.Laws.{AreCoresRising, at_memory, EndsSegment, AgreeOn, IsAlike, HoldsLess, IsLater, HoldApart, SameInEitherOrder, HasUsedUp, IsOutOfFuel, IsHeldUp, HasTasks, HasFront, StartAlone, IsEnded, IsLegal};
@@ -156,8 +156,10 @@ pub fn no_task_waits_if_locks_are_taken_in_order()
 {}
 
 /// A run that is done with some fuel is the same with more fuel: the same grants are whole, and lead to the same loads and the
-/// same ending.
+/// same ending. So is a run at whose end no task is out of fuel.
 pub fn more_fuel_changes_no_run_that_is_done()
-    ensures { (P : ProgramParts) (fuel more : ℕ) (gs : List Grant) (e : FlatEnd) → fuel ≤ more → flat_end P fuel gs ≡ Some e → e.ending.outcome ≡ Done
+    ensures done { (P : ProgramParts) (fuel more : ℕ) (gs : List Grant) (e : FlatEnd) → fuel ≤ more → flat_end P fuel gs ≡ Some e → e.ending.outcome ≡ Done
         → flat_end P more gs ≡ Some e }
+    ensures unspent { (P : ProgramParts) (fuel more : ℕ) (gs : List Grant) (e : FlatEnd) → fuel ≤ more → flat_end P fuel gs ≡ Some e
+        → All (λ (t : TaskEnd). is_spent t.end ≡ false) e.ending.tasks → flat_end P more gs ≡ Some e }
 {}

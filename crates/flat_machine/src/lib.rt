@@ -5,6 +5,7 @@
 #![tactic(auto)]
 
 mod accesses;
+mod acquires;
 mod ending;
 mod faults;
 mod laws;
@@ -15,6 +16,7 @@ mod runs;
 mod traced;
 
 pub use accesses::{AccessKind, FlatAccess, FlatAction};
+pub use acquires::{Acquire, a_lock_is_acquired_where_its_task_waits, flat_acquires};
 pub use ending::{FlatEnd, TaskLoads};
 pub use faults::{GrantFault, fault_of_grants};
 pub use laws::{

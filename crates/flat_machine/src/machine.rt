@@ -95,7 +95,7 @@ fn is_free(tasks: &[Running<'_>], lock: LockId) -> bool
 }
 
 /// The grant that a task can take, among these tasks.
-fn grant_for(
+pub(crate) fn grant_for(
     program: &Program,
     fuel: u32,
     tasks: &[Running<'_>],
@@ -115,7 +115,7 @@ fn grant_for(
 }
 
 /// Whether the grant that was found is the given one.
-fn is_grant(given: Grant, found: Option<Grant>) -> bool
+pub(crate) fn is_grant(given: Grant, found: Option<Grant>) -> bool
     ensures { result ≡ is_grant given found }
 {
     match found {
