@@ -138,9 +138,10 @@ def answers_are_explained_one_after_the_other():
         wanted = b"".join(alone if order is answers else alone[::-1])
         check("answers one after the other", (ran.returncode, ran.stdout) == (0, wanted), ran.stdout)
     ran = run(programs("explain")[0] + [text], answers[1] * 18)
-    unplaced = re.sub(rb"  It waits at .*\n.*\n", b"", alone[1])
-    check("of 16 answers it is said where tasks wait", unplaced != alone[1] and ran.stdout == alone[1] * 16 + unplaced * 2, ran.stdout)
-    waits = b"waits for first (lock 0), which isn't given up.\n  It waits at line 17:\n  17 |  ecall\n  The task of core 0 in phase 0, which line 9 declares, holds this lock.\n"
+    unplaced = re.sub(rb"  It (waits|acquired it) at .*\n.*\n", b"", alone[1])
+    check("of 16 answers it is said where tasks wait and where locks were acquired", unplaced != alone[1] and ran.stdout == alone[1] * 16 + unplaced * 2, ran.stdout)
+    waits = b"waits for first (lock 0), which isn't given up.\n  It waits at line 17:\n  17 |  ecall\n  The task of core 0 in phase 0, which line 9 declares, "
+    waits += b"holds this lock.\n  It acquired it at line 15:\n  15 |  ecall\n"
     other = answers[1] + b"outcome done\ngrant 0 1 0\n"
     ran = run(programs("explain")[0] + [text], other)
     check("a grant of the next answer names no holder of the first", waits in ran.stdout, ran.stdout)

@@ -12,3 +12,4 @@ pub mod RunAgain
 pub mod Several
 pub mod Trace
 pub mod Verdicts
+pub mod Acquires

@@ -11,8 +11,8 @@ use Rattle.text_places.specs.declared.places.CodePlace.{CodePlace}
 use Rattle.text_places.specs.declared.places.TaskPlace.{TaskPlace}
 use Rattle.text_places.specs.declared.places.Places.{Places}
 use Rattle.text_places.specs.Words.{is_task_of}
-use Rattle.text_places.specs.Texts.{code_text, lock_text, quoted_line, word_text}
-use Rattle.sentences.specs.Endings.{code_place_at, indent, ending_text}
+use Rattle.text_places.specs.Texts.{lock_text, word_text}
+use Rattle.sentences.specs.Endings.{code_place_at, indent, ending_text, place_behind}
 use Rattle.explained_answer.specs.declared.line.AnswerLine as line
 use Rattle.explained_answer.specs.declared.line.AnswerLine.{AnswerLine}
 use Rattle.explained_answer.specs.declared.line.Count as count
@@ -24,9 +24,9 @@ use Rattle.explained_answer.specs.declared.several.OneAnswer.{OneAnswer}
 use Rattle.explained_answer.specs.declared.parsing.ReadAnswer.{ReadAnswer}
 use Rattle.explained_answer.specs.declared.parsing.ReadAnswer as read_answer
 use Rattle.explained_answer.specs.Ended.{named_on, outcome_text, ended_holder_text}
-use Rattle.sentences.specs.declared.stopping.Stop.{Stop}
-use Rattle.explained_answer.specs.RunAgain.{answer_stops, pc_on}
-use Rattle.explained_answer.specs.Holders.{answer_grants, holder_on}
+use Rattle.sentences.specs.declared.endings.Standstill.{Standstill}
+use Rattle.explained_answer.specs.declared.run_again.AgainRun.{AgainRun}
+use Rattle.explained_answer.specs.RunAgain.{answer_again, standstill_on}
 use Rattle.explained_answer.specs.Several.{answers_in}
 
 -- ---- what is said
@@ -52,11 +52,11 @@ task_there None = []
 unfoldable pub the_instruction : List ℕ
 the_instruction = codes "  This is the instruction"
 
-unfoldable pub stands_there : List ℕ → CodePlace → List ℕ
-stands_there text p = codes " at " ++ code_text p ++ codes ":" ++ newline ++ indent ++ quoted_line text p.line
+unfoldable pub at_its_place : List ℕ
+at_its_place = codes " at "
 
 abbrev pub instruction_there : List ℕ → Option TaskPlace → CodePlace → List ℕ
-instruction_there text task p = the_instruction ++ task_there task ++ stands_there text p
+instruction_there text task p = the_instruction ++ task_there task ++ place_behind at_its_place text p
 
 abbrev pub unproven_at : List ℕ → Option TaskPlace → Option CodePlace → List ℕ
 unproven_at text task (Some p) = instruction_there text task p
@@ -67,30 +67,29 @@ abbrev pub unproven_text : List ℕ → Places → ℕ → ℕ → ℕ → List 
 unproven_text text places phase core pc = unproven_at text (find (is_task_of phase core) places.tasks) (code_place_at places pc)
 
 -- what is said after a line: for a task that didn't finish, why; for an instruction, where it stands; otherwise the names of
--- words and locks. `pc` is the address of the next instruction of the line's task, if that is known; `holder` is the core that holds
--- the lock for which it waits, if the answer tells that; `named` is the cause of an outcome, or the task of this core, if it ended
-abbrev pub sentences_behind : List ℕ → Located → Option ℕ → Option ℕ → Option TaskEnd → AnswerLine → List ℕ
-sentences_behind text l pc holder named (line.TheVariants.Outcome o) = outcome_text l.places o named
-sentences_behind text l pc holder named (line.TheVariants.Task t) = ending_text text l pc holder t ++ ended_holder_text l.places named
-sentences_behind text l pc holder named (line.TheVariants.Word word value) = named_word l word
-sentences_behind text l pc holder named (line.TheVariants.Grant g) = named_lock l g.lock.0
-sentences_behind text l pc holder named (line.TheVariants.Unbounded phase core at) = unproven_text text l.places phase core at
-sentences_behind text l pc holder named (line.TheVariants.Count c number) = []
-sentences_behind text l pc holder named (line.TheVariants.Sum value) = []
-sentences_behind text l pc holder named (line.TheVariants.Time ticks) = []
-sentences_behind text l pc holder named (line.TheVariants.Link k) = []
-sentences_behind text l pc holder named (line.TheVariants.Checked phases tasks words) = []
-sentences_behind text l pc holder named (line.TheVariants.Fixed f) = []
+-- words and locks. `still` has what is known of the line's task, if it waits or is out of fuel; `named` is the cause of an outcome, or
+-- the task that holds the lock for which the line's task waits, if it ended
+abbrev pub sentences_behind : List ℕ → Located → Standstill → Option TaskEnd → AnswerLine → List ℕ
+sentences_behind text l still named (line.TheVariants.Outcome o) = outcome_text l.places o named
+sentences_behind text l still named (line.TheVariants.Task t) = ending_text text l still t ++ ended_holder_text l.places named
+sentences_behind text l still named (line.TheVariants.Word word value) = named_word l word
+sentences_behind text l still named (line.TheVariants.Grant g) = named_lock l g.lock.0
+sentences_behind text l still named (line.TheVariants.Unbounded phase core at) = unproven_text text l.places phase core at
+sentences_behind text l still named (line.TheVariants.Count c number) = []
+sentences_behind text l still named (line.TheVariants.Sum value) = []
+sentences_behind text l still named (line.TheVariants.Time ticks) = []
+sentences_behind text l still named (line.TheVariants.Link k) = []
+sentences_behind text l still named (line.TheVariants.Checked phases tasks words) = []
+sentences_behind text l still named (line.TheVariants.Fixed f) = []
 
--- a line of an answer that has these lines, and whose tasks stand there, and what is said after it
-abbrev pub explained_line : List ℕ → Located → List Stop → List AnswerLine → AnswerLine → List ℕ
-explained_line text l stops lines x =
-    answer_line x ++ sentences_behind text l (pc_on stops x) (holder_on (answer_grants lines) x) (named_on lines x) x
+-- a line of an answer that has these lines, and whose run tells this, and what is said after it
+abbrev pub explained_line : List ℕ → Located → AgainRun → List AnswerLine → AnswerLine → List ℕ
+explained_line text l again lines x = answer_line x ++ sentences_behind text l (standstill_on again lines x) (named_on lines x) x
 
 -- the lines of one answer, each with what is said after it. `again` is the program that is run once more for where the answer's tasks
 -- stand; without one, that isn't said
 abbrev pub answer_and_sentences : List ℕ → Located → Option ProgramParts → List AnswerLine → List ℕ
-answer_and_sentences text l again lines = flat_map (explained_line text l (answer_stops again lines) lines) lines
+answer_and_sentences text l again lines = flat_map (explained_line text l (answer_again again lines) lines) lines
 
 -- answers one after the other. A run may be long, so where tasks stand is said of the first answers only
 abbrev pub answers_run_again : ℕ

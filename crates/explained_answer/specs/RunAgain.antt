@@ -13,11 +13,16 @@ use Rattle.flat_machine.specs.Phases.{Flat, all_tasks}
 use Rattle.flat_machine.specs.Grants.{so_far}
 use Rattle.flat_machine.specs.Ending.{task_end}
 use Rattle.sentences.specs.declared.stopping.Stop.{Stop}
+use Rattle.flat_machine.specs.declared.acquires.Acquire.{Acquire}
+use Rattle.flat_machine.specs.Acquires.{acquires_so_far}
+use Rattle.sentences.specs.declared.endings.Standstill.{Standstill}
 use Rattle.sentences.specs.Stops.{stops_by}
+use Rattle.explained_answer.specs.declared.run_again.AgainRun.{AgainRun}
 use Rattle.explained_answer.specs.declared.line.AnswerLine as line
 use Rattle.explained_answer.specs.declared.line.AnswerLine.{AnswerLine}
 use Rattle.explained_answer.specs.Ended.{answer_tasks}
-use Rattle.explained_answer.specs.Holders.{answer_grants}
+use Rattle.explained_answer.specs.Holders.{answer_grants, holder_on}
+use Rattle.explained_answer.specs.Acquires.{acquired_on}
 
 -- a task that waits or is out of fuel: only of such a one it is said where it stands
 abbrev pub is_unfinished : TaskEnd → Bool
@@ -77,10 +82,30 @@ stops_with P ends grants = stops_if ends (stops_within P (fuel_of ends) grants)
 unfoldable pub stops_of_run : ProgramParts → List AnswerLine → List Stop
 stops_of_run P lines = if list_any is_unfinished (answer_tasks lines) then stops_with P (answer_tasks lines) (answer_grants lines) else []
 
+-- ---- the locks that its tasks acquired
+
+abbrev pub acquires_within : ProgramParts → ℕ → List Grant → List Acquire
+acquires_within P fuel grants = if nat_le 1 fuel && nat_le fuel 32768 then acquires_so_far P fuel grants else []
+
+-- those of the run in which the tasks of the answer stand there; nothing where that isn't known
+abbrev pub acquires_with : ProgramParts → ℕ → List Grant → List Stop → List Acquire
+acquires_with P fuel grants [] = []
+acquires_with P fuel grants (s ∷ ss) = acquires_within P fuel grants
+
+-- the locks that are acquired in the run of an answer with these lines, whose tasks stand there
+unfoldable pub acquires_of_run : ProgramParts → List AnswerLine → List Stop → List Acquire
+acquires_of_run P lines stops = acquires_with P (fuel_of (answer_tasks lines)) (answer_grants lines) stops
+
+-- ---- both
+
+-- what the run of an answer tells besides its lines: where tasks stand, and the locks that they acquired
+abbrev pub run_again : ProgramParts → List AnswerLine → AgainRun
+run_again P lines = record { stops = stops_of_run P lines; acquires = acquires_of_run P lines (stops_of_run P lines) }
+
 -- the same, if the answer is run again
-abbrev pub answer_stops : Option ProgramParts → List AnswerLine → List Stop
-answer_stops (Some P) lines = stops_of_run P lines
-answer_stops None lines = []
+abbrev pub answer_again : Option ProgramParts → List AnswerLine → AgainRun
+answer_again (Some P) lines = run_again P lines
+answer_again None lines = record { stops = []; acquires = [] }
 
 -- the address of the next instruction of a task that stands so
 abbrev pub pc_of_end : List Stop → TaskEnd → Option ℕ
@@ -90,6 +115,11 @@ pc_of_end stops t = option_map (λ (s : Stop). s.pc) (find (λ (s : Stop). same_
 abbrev pub pc_on : List Stop → AnswerLine → Option ℕ
 pc_on stops (line.TheVariants.Task t) = if is_unfinished t then pc_of_end stops t else None
 pc_on stops _ = None
+
+-- what is known of the task of a line of an answer with these lines, if it waits or is out of fuel
+abbrev pub standstill_on : AgainRun → List AnswerLine → AnswerLine → Standstill
+standstill_on again lines x =
+    record { pc = pc_on again.stops x; holder = holder_on (answer_grants lines) x; acquired = acquired_on again.acquires x }
 
 -- in the last state of the run by these grants there is a task that stands so, and its next instruction is at this address
 pub record IsNextOfTask (P : ProgramParts) (fuel : ℕ) (grants : List Grant) (t : TaskEnd) (pc : ℕ) : Type 0 where

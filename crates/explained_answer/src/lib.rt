@@ -1,6 +1,7 @@
 //! An answer explained: each of its lines, followed by sentences on the place in the text that the line concerns.
 #![tactic(auto)]
 
+mod acquires;
 mod cause_laws;
 mod causes;
 mod ended;
@@ -32,6 +33,7 @@ mod verdicts;
 mod wholes;
 mod words;
 
+pub use acquires::a_named_acquire_is_the_last_of_its_lock;
 pub use cause_laws::{a_cause_has_a_line_that_says_so, an_ended_holder_has_a_line_that_says_so};
 pub use explaining::{Explained, explain};
 pub use line::{AnswerLine, Count, FixedLine, Link};
@@ -40,7 +42,9 @@ pub use line_laws::{
 };
 pub use line_parsing::read_line;
 pub use listing::take_listing;
-pub use run_again::a_named_instruction_is_the_next_of_its_task;
+pub use run_again::{
+    a_named_instruction_is_the_next_of_its_task, what_a_run_tells_of_unfinished_tasks_is_said,
+};
 pub use taken::Taken;
 pub use trace::take_trace;
 pub use trace_laws::a_trace_of_the_text_is_taken;

@@ -1,18 +1,19 @@
 //! The lines of the answer of a run.
 ghost use Rattle.std.specs.Prelude.{◌≡◌, ◌++◌, OnOk};
+ghost use Rattle.sentences.specs.Endings.{place_behind};
 ghost use Rattle.sentences.specs.Told.{AreTold};
 ghost use Rattle.sentences.specs.Quotes.{AreSpans};
 ghost use Rattle.explained_answer.specs.AnswerLines.{answer_line};
-ghost use Rattle.explained_answer.specs.Lines.{named_word, named_lock, which_line, declared_there, task_there, the_instruction, stands_there, instruction_there, unproven_text, sentences_behind};
+ghost use Rattle.explained_answer.specs.Lines.{named_word, named_lock, which_line, declared_there, task_there, the_instruction, at_its_place, instruction_there, unproven_text, sentences_behind};
 
 use crate::AnswerLine;
 use crate::causes::{push_ended_holder, push_outcome};
 use dn_base::Memory;
 use rv_core::TaskEnd;
-use sentences::{ToldEffects, code_place_at, push_ending, push_line};
+use sentences::{Standstill, ToldEffects, code_place_at, push_ending, push_place_behind};
 use src_text::Span;
 use text_pieces::{push, push_decimal};
-use text_places::{CodePlace, Located, Places, TaskPlace, push_code_place, push_lock, push_word};
+use text_places::{CodePlace, Located, Places, TaskPlace, push_lock, push_word};
 
 #[tactic(auto, unfolding(crate::specs::Lines::named_word))]
 fn push_named_word(out: &mut Vec<u8>, located: &Located, word: u32) -> Result<(), Memory>
@@ -65,20 +66,17 @@ fn push_the_instruction(out: &mut Vec<u8>) -> Result<(), Memory>
     push(out, b"  This is the instruction")
 }
 
-#[tactic(auto, unfolding(crate::specs::Lines::stands_there))]
-fn push_stands_there(
+#[tactic(auto, unfolding(crate::specs::Lines::at_its_place))]
+fn push_at_place(
     out: &mut Vec<u8>,
     text: &[u8],
     spans: &[Span],
     place: CodePlace,
 ) -> Result<(), Memory>
     requires { AreSpans text.now spans.now }
-    ensures { OnOk result (out.new.items ≡ out.old.items ++ stands_there text.now place) }
+    ensures { OnOk result (out.new.items ≡ out.old.items ++ place_behind at_its_place text.now place) }
 {
-    push(out, b" at ")?;
-    push_code_place(out, place)?;
-    push(out, b":\n  ")?;
-    push_line(out, text, spans, place.line)
+    push_place_behind(out, b" at ", text, spans, place)
 }
 
 /// Adds where an instruction of a task stands.
@@ -94,7 +92,7 @@ fn push_instruction_there(
 {
     push_the_instruction(out)?;
     push_task_there(out, task)?;
-    push_stands_there(out, text, spans, place)
+    push_at_place(out, text, spans, place)
 }
 
 /// Adds where the instruction stands that the prover names.
@@ -121,8 +119,8 @@ fn push_unproven(
     }
 }
 
-/// Adds what is said after a line of an answer. `pc` is the address of the next instruction of the line's task, `holder` the core
-/// that holds the lock for which this task waits, and `named` the cause of an outcome, or the task of this core, if it ended.
+/// Adds what is said after a line of an answer. `still` has what is known of the line's task, and `named` is the cause of an outcome,
+/// or the task that holds the lock for which the line's task waits, if it ended.
 fn push_sentences<'a>(
     out: &mut Vec<u8>,
     text: &[u8],
@@ -130,18 +128,17 @@ fn push_sentences<'a>(
     effects: &ToldEffects<'a>,
     located: &'a Located,
     line: AnswerLine,
-    pc: Option<u32>,
-    holder: Option<u32>,
+    still: Standstill,
     named: Option<TaskEnd>,
 ) -> Result<(), Memory>
     requires spans { AreSpans text.now spans.now }
     requires effects { AreTold text.now effects.now }
-    ensures { OnOk result (out.new.items ≡ out.old.items ++ sentences_behind text.now located.now pc holder named line) }
+    ensures { OnOk result (out.new.items ≡ out.old.items ++ sentences_behind text.now located.now still named line) }
 {
     match line {
         AnswerLine::Outcome(outcome) => push_outcome(out, &located.places, outcome, named),
         AnswerLine::Task(task) => {
-            push_ending(out, text, spans, effects, located, task, pc, holder)?;
+            push_ending(out, text, spans, effects, located, task, still)?;
             push_ended_holder(out, &located.places, named)
         }
         AnswerLine::Word { word, value: _ } => push_named_word(out, located, word),
@@ -169,15 +166,14 @@ pub(crate) fn push_explained<'a>(
     located: &'a Located,
     line: AnswerLine,
     written: &[u8],
-    pc: Option<u32>,
-    holder: Option<u32>,
+    still: Standstill,
     named: Option<TaskEnd>,
 ) -> Result<(), Memory>
     requires spans { AreSpans text.now spans.now }
     requires effects { AreTold text.now effects.now }
     requires written { written.now ≡ answer_line line }
-    ensures { OnOk result (out.new.items ≡ out.old.items ++ (answer_line line ++ sentences_behind text.now located.now pc holder named line)) }
+    ensures { OnOk result (out.new.items ≡ out.old.items ++ (answer_line line ++ sentences_behind text.now located.now still named line)) }
 {
     push(out, written)?;
-    push_sentences(out, text, spans, effects, located, line, pc, holder, named)
+    push_sentences(out, text, spans, effects, located, line, still, named)
 }

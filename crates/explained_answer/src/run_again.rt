@@ -1,25 +1,33 @@
-//! The run of an answer once more, by the grants that it tells: where its tasks stand that wait or are out of fuel.
-ghost use Rattle.std.specs.Prelude.{◌≡◌, ℕ, Ok, Some, List, find, option_copied, IfOk, OnOk, ◌++◌};
-ghost use Rattle.std.specs.List.{list_any};
+//! The run of an answer once more, by the grants that it tells: where its tasks stand that wait or are out of fuel, and where locks
+//! were acquired.
+ghost use Rattle.std.specs.Prelude.{◌≡◌, ◌≢◌, ◌≤◌, ℕ, Ok, Some, None, true, List, find, option_copied, IfOk, OnOk, ◌++◌};
+ghost use Rattle.std.specs.List.{IsAmong, list_any};
+ghost use Rattle.dn_base.specs.declared.ids.LockId.{LockId as LockOf};
+ghost use Rattle.rv_core.specs.declared.ending.EndShown.TheVariants.{Waits};
+ghost use Rattle.flat_machine.specs.declared.ending.FlatEnd.{FlatEnd as FlatEndOf};
+ghost use Rattle.flat_machine.specs.Ending.{flat_end};
+ghost use Rattle.explained_answer.specs.Acquires.{awaited_acquire};
 ghost use Rattle.region_table.specs.Program.{ProgramParts};
 ghost use Rattle.rv_assembler.specs.Source.{source};
 ghost use Rattle.rv_core.specs.Ending.{is_spent};
 ghost use Rattle.effect_checker.specs.Checked.{IsChecked};
-ghost use Rattle.explained_answer.specs.Ended.{told_task, answer_tasks};
-ghost use Rattle.explained_answer.specs.Holders.{answer_grants, grant_on};
+ghost use Rattle.explained_answer.specs.Ended.{told_task, answer_tasks, AreLastLines};
+ghost use Rattle.explained_answer.specs.Holders.{answer_grants, grant_on, holder_of};
 ghost use Rattle.explained_answer.specs.Lines.{lines_in};
-ghost use Rattle.explained_answer.specs.RunAgain.{is_unfinished, fuel_by, fuel_of, stops_within, is_finished, is_trap_at, is_wait_for, same_way, same_end, are_ends, stops_if, stops_with, stops_of_run, answer_stops, pc_of_end, pc_on, IsNextOfTask};
+ghost use Rattle.explained_answer.specs.RunAgain.{is_unfinished, fuel_by, fuel_of, stops_within, is_finished, is_trap_at, is_wait_for, same_way, same_end, are_ends, stops_if, stops_with, stops_of_run, acquires_within, acquires_of_run, run_again, answer_again, pc_of_end, pc_on, standstill_on, IsNextOfTask};
 ghost use Rattle.explained_answer.specs.declared.line.AnswerLine.{AnswerLine as LineOf};
 ghost use Rattle.rv_core.specs.declared.ending.TaskEnd.{TaskEnd as EndOf};
 
 use crate::AnswerLine;
-use crate::ended::is_waiting;
+use crate::acquires::acquired_on;
+use crate::ended::{LastLines, holder_among, is_waiting};
 use crate::parsing::ReadLine;
 use dn_base::{Grant, Memory, Sequence};
 use effect_checker::{Checked, check};
+use flat_machine::{Acquire, flat_acquires};
 use rv_assembler::{SourceFault, assemble};
 use rv_core::{EndShown, TaskEnd};
-use sentences::{Stop, stops};
+use sentences::{Standstill, Stop, stops};
 use std::alloc::Global;
 
 /// The greatest number of instructions that a task may retire.
@@ -250,17 +258,73 @@ fn stops_of_run(
     stops_with(alloc, checked, tasks.as_slice(), grants.as_slice())
 }
 
-/// Where the tasks of an answer with these lines stand; nothing without a program that is run again.
-pub(crate) fn answer_stops(
+/// The locks that tasks acquire by these grants, if the fuel is one that a run may have.
+fn acquires_within(
+    alloc: Global,
+    checked: &Checked,
+    fuel: u32,
+    grants: &[Grant],
+) -> Result<Sequence<Acquire>, Memory>
+    ensures { IfOk result (λ found. found ≡ acquires_within checked.now fuel grants.now) }
+{
+    if 1 <= fuel && fuel <= MOST_FUEL {
+        flat_acquires(alloc, checked, fuel, grants)
+    } else {
+        Ok(Sequence::new(alloc))
+    }
+}
+
+/// The locks that are acquired in the run of an answer with these lines, whose tasks stand there; nothing where it isn't known where
+/// they stand.
+#[tactic(auto, unfolding(crate::specs::RunAgain::acquires_of_run))]
+fn acquires_of_run(
+    alloc: Global,
+    checked: &Checked,
+    lines: &[ReadLine<'_>],
+    stops: &[Stop],
+) -> Result<Sequence<Acquire>, Memory>
+    ensures { IfOk result (λ found. found ≡ acquires_of_run checked.now (lines_in lines.now) stops.now) }
+{
+    if stops.is_empty() {
+        return Ok(Sequence::new(alloc));
+    }
+    let tasks = answer_tasks(alloc, lines)?;
+    let grants = answer_grants(alloc, lines)?;
+    acquires_within(alloc, checked, fuel_of(tasks.as_slice()), grants.as_slice())
+}
+
+/// What the run of an answer, which is made once more, tells besides its lines.
+#[derive(Drop)]
+pub(crate) struct AgainRun {
+    /// Where the tasks stand; nothing if none of them waits or is out of fuel, or the run doesn't end as the answer says.
+    pub(crate) stops: Sequence<Stop>,
+    /// The locks that tasks acquired, in the order of the grants; nothing where there are no stops.
+    pub(crate) acquires: Sequence<Acquire>,
+}
+
+/// Runs this program once more for an answer with these lines.
+fn run_again(alloc: Global, checked: &Checked, lines: &[ReadLine<'_>]) -> Result<AgainRun, Memory>
+    ensures { IfOk result (λ again. again ≡ run_again checked.now (lines_in lines.now)) }
+{
+    let stops = stops_of_run(alloc, checked, lines)?;
+    let acquires = acquires_of_run(alloc, checked, lines, stops.as_slice())?;
+    Ok(AgainRun { stops, acquires })
+}
+
+/// What the run of an answer with these lines tells; nothing without a program that is run again.
+pub(crate) fn answer_again(
     alloc: Global,
     again: Option<&Checked>,
     lines: &[ReadLine<'_>],
-) -> Result<Sequence<Stop>, Memory>
-    ensures { IfOk result (λ stops. stops ≡ answer_stops (option_copied again.entry) (lines_in lines.now)) }
+) -> Result<AgainRun, Memory>
+    ensures { IfOk result (λ told. told ≡ answer_again (option_copied again.entry) (lines_in lines.now)) }
 {
     match again {
-        Some(checked) => stops_of_run(alloc, checked, lines),
-        None => Ok(Sequence::new(alloc)),
+        Some(checked) => run_again(alloc, checked, lines),
+        None => Ok(AgainRun {
+            stops: Sequence::new(alloc),
+            acquires: Sequence::new(alloc),
+        }),
     }
 }
 
@@ -277,7 +341,7 @@ fn pc_of_end(stops: &[Stop], task: TaskEnd) -> Option<u32>
 }
 
 /// The address of the next instruction of the task of a line, if it waits or is out of fuel.
-pub(crate) fn pc_on(stops: &[Stop], line: AnswerLine) -> Option<u32>
+fn pc_on(stops: &[Stop], line: AnswerLine) -> Option<u32>
     ensures { result ≡ pc_on stops.now line }
 {
     match line {
@@ -286,9 +350,31 @@ pub(crate) fn pc_on(stops: &[Stop], line: AnswerLine) -> Option<u32>
     }
 }
 
+/// What is known of the task of a line, if it waits or is out of fuel.
+pub(crate) fn standstill_on(again: &AgainRun, last: &LastLines, line: AnswerLine) -> Standstill
+    ensures { (lines : List LineOf) → AreLastLines lines last.now → result ≡ standstill_on again.now lines line }
+{
+    Standstill {
+        pc: pc_on(again.stops.as_slice(), line),
+        holder: holder_among(last, line),
+        acquired: acquired_on(again.acquires.as_slice(), line),
+    }
+}
+
 /// The instruction that is named as the next one of the task of a line is so in the run of the program by the answer's grants: in
 /// the last state of this run the task stands as the line says, and this is the address of its next instruction.
 pub fn a_named_instruction_is_the_next_of_its_task()
     ensures { (P : ProgramParts) (lines : List LineOf) (t : EndOf) (pc : ℕ) → pc_of_end (stops_of_run P lines) t ≡ Some pc
         → IsNextOfTask P (fuel_of (answer_tasks lines)) (answer_grants lines) t pc }
+{}
+
+/// If an answer has the grants and the tasks of a run, then of each of its tasks that waits or is out of fuel the next instruction is
+/// known. And where the holder of a lock is known for which a task of it waits, it is known where it acquired the lock.
+pub fn what_a_run_tells_of_unfinished_tasks_is_said()
+    ensures place { (P : ProgramParts) (fuel : ℕ) (lines : List LineOf) (e : FlatEndOf) (t : EndOf) → 1 ≤ fuel → fuel ≤ 32768
+        → flat_end P fuel (answer_grants lines) ≡ Some e → answer_tasks lines ≡ e.ending.tasks → IsAmong (answer_tasks lines) t → is_unfinished t ≡ true
+        → pc_of_end (stops_of_run P lines) t ≢ None }
+    ensures acquire { (P : ProgramParts) (fuel : ℕ) (lines : List LineOf) (e : FlatEndOf) (t : EndOf) (lock : LockOf) → 1 ≤ fuel → fuel ≤ 32768
+        → flat_end P fuel (answer_grants lines) ≡ Some e → answer_tasks lines ≡ e.ending.tasks → IsAmong (answer_tasks lines) t → t.end ≡ Waits lock
+        → holder_of (answer_grants lines) t.phase.0 lock.0 ≢ None → awaited_acquire (run_again P lines).acquires t.phase.0 t.end ≢ None }
 {}

@@ -9,10 +9,10 @@ ghost use Rattle.explained_answer.specs.Lines.{answers_run_again, answer_and_sen
 ghost use Rattle.explained_answer.specs.Several.{begins_answer, goes_on, answers_in};
 
 use crate::AnswerLine;
-use crate::ended::{holder_among, last_lines, named_on};
+use crate::ended::{last_lines, named_on};
 use crate::lines::push_explained;
 use crate::parsing::ReadLine;
-use crate::run_again::{answer_stops, checked_program, pc_on};
+use crate::run_again::{answer_again, checked_program, standstill_on};
 use dn_base::Memory;
 use effect_checker::Checked;
 use sentences::{ToldEffects, line_spans, told_effects};
@@ -92,10 +92,9 @@ fn push_answer<'a>(
 {
     let alloc = *out.allocator();
     let last = last_lines(alloc, located, lines)?;
-    let stops = answer_stops(alloc, again, lines)?;
+    let told = answer_again(alloc, again, lines)?;
     for read in lines {
-        let pc = pc_on(stops.as_slice(), read.line);
-        let holder = holder_among(&last, read.line);
+        let still = standstill_on(&told, &last, read.line);
         let named = named_on(&last, lines, read.line);
         push_explained(
             out,
@@ -105,8 +104,7 @@ fn push_answer<'a>(
             located,
             read.line,
             read.written,
-            pc,
-            holder,
+            still,
             named,
         )?;
     }

@@ -18,6 +18,7 @@ use Rattle.text_places.specs.Texts.{address_text, code_text, lock_text, quoted_l
 use Rattle.sentences.specs.declared.uses.Access.{Access}
 use Rattle.sentences.specs.declared.uses.Access.TheVariants.{Load, Store}
 use Rattle.sentences.specs.declared.loops.Loop.{Loop}
+use Rattle.sentences.specs.declared.endings.Standstill.{Standstill}
 use Rattle.sentences.specs.Loops.{loop_around}
 use Rattle.sentences.specs.Outside.{outside_sentences}
 use Rattle.sentences.specs.Uses.{instruction_access}
@@ -52,12 +53,24 @@ task_text places phase core =
 abbrev pub code_place_at : Places → ℕ → Option CodePlace
 code_place_at places pc = if nat_le 0x1000 pc && pc % 4 == 0 then slice_get places.code ((pc - 0x1000) / 4) else None
 
--- where a task ended: the line of the code word, and its bytes
-unfoldable pub stands_at : List ℕ → CodePlace → List ℕ
-stands_at text p = codes " ended at " ++ code_text p ++ codes ":" ++ newline ++ indent ++ quoted_line text p.line
+-- a place in the code behind some words: the line of the code word, and its bytes
+unfoldable pub place_behind : List ℕ → List ℕ → CodePlace → List ℕ
+place_behind words text p = words ++ code_text p ++ codes ":" ++ newline ++ indent ++ quoted_line text p.line
+
+abbrev pub place_if : List ℕ → List ℕ → Option CodePlace → List ℕ
+place_if words text None = []
+place_if words text (Some p) = place_behind words text p
+
+-- the place of an address, behind some words; nothing if the address isn't known, or there is no code
+abbrev pub known_place : List ℕ → List ℕ → Located → Option ℕ → List ℕ
+known_place words text l None = []
+known_place words text l (Some pc) = place_if words text (code_place_at l.places pc)
+
+unfoldable pub ended_at : List ℕ
+ended_at = codes " ended at "
 
 abbrev pub line_at : List ℕ → Option CodePlace → List ℕ
-line_at text (Some p) = stands_at text p
+line_at text (Some p) = place_behind ended_at text p
 line_at text None = codes " ended where there is no code." ++ newline
 
 -- what is wrong, with the value of the trap in the middle, and how to fix it
@@ -149,16 +162,11 @@ fuel_remedy retired =
 unfoldable pub its_next : List ℕ
 its_next = codes "  Its next instruction is at "
 
--- the line of the instruction that is next
-unfoldable pub goes_on_at : List ℕ → CodePlace → List ℕ
-goes_on_at text p = its_next ++ code_text p ++ codes ":" ++ newline ++ indent ++ quoted_line text p.line
-
 unfoldable pub it_waits_at : List ℕ
 it_waits_at = codes "  It waits at "
 
--- the line of the ECALL by which it waits
-unfoldable pub waits_at : List ℕ → CodePlace → List ℕ
-waits_at text p = it_waits_at ++ code_text p ++ codes ":" ++ newline ++ indent ++ quoted_line text p.line
+unfoldable pub it_acquired_it_at : List ℕ
+it_acquired_it_at = codes "  It acquired it at "
 
 unfoldable pub loop_on_line : ℕ → List ℕ
 loop_on_line line = codes "  It is in the loop on line " ++ decimal line ++ codes "." ++ newline
@@ -182,23 +190,10 @@ abbrev pub loop_lines : Places → Option Loop → List ℕ
 loop_lines places None = []
 loop_lines places (Some l) = loop_between (code_place_at places l.head) (code_place_at places l.back)
 
-abbrev pub next_at : List ℕ → Option CodePlace → List ℕ
-next_at text None = []
-next_at text (Some p) = goes_on_at text p
-
 -- the line of the next instruction, which has this address, and of the loop that it is in
 abbrev pub next_text : List ℕ → Located → Option ℕ → List ℕ
 next_text text l None = []
-next_text text l (Some pc) = next_at text (code_place_at l.places pc) ++ loop_lines l.places (loop_around l.program.code pc)
-
-abbrev pub wait_line : List ℕ → Option CodePlace → List ℕ
-wait_line text None = []
-wait_line text (Some p) = waits_at text p
-
--- the line of the ECALL by which it waits, which has this address
-abbrev pub wait_place : List ℕ → Located → Option ℕ → List ℕ
-wait_place text l None = []
-wait_place text l (Some pc) = wait_line text (code_place_at l.places pc)
+next_text text l (Some pc) = known_place its_next text l (Some pc) ++ loop_lines l.places (loop_around l.program.code pc)
 
 unfoldable pub out_of_fuel : List ℕ
 out_of_fuel = codes " has retired as many instructions as it may, and hasn't ended." ++ newline
@@ -219,10 +214,10 @@ holds_it = codes " holds this lock." ++ newline
 unfoldable pub holder_untold : List ℕ
 holder_untold = codes "  The grants in this answer don't tell which task holds the lock." ++ newline
 
--- which task of the phase holds a lock, if its core is known
-abbrev pub holder_text : Places → ℕ → Option ℕ → List ℕ
-holder_text places phase (Some core) = task_text places phase core ++ holds_it
-holder_text places phase None = holder_untold
+-- which task of the phase holds a lock, if its core is known, and where it acquired it, if that is known
+abbrev pub holder_text : List ℕ → Located → ℕ → Option ℕ → Option ℕ → List ℕ
+holder_text text l phase (Some core) acquired = task_text l.places phase core ++ holds_it ++ known_place it_acquired_it_at text l acquired
+holder_text text l phase None acquired = holder_untold
 
 unfoldable pub wait_remedy : List ℕ
 wait_remedy = indent ++ codes "Have each task release what it acquires, and all tasks acquire their locks in one order." ++ newline
@@ -230,16 +225,17 @@ wait_remedy = indent ++ codes "Have each task release what it acquires, and all 
 unfoldable pub wait_text : ProgramParts → ℕ → List ℕ
 wait_text p lock = codes " waits for " ++ lock_text p.locks lock ++ not_given_up
 
--- the sentences on how a task stands; `pc` is the address of the next instruction of a task that hasn't ended, if that is known, and
--- `holder` the core whose task holds the lock that it waits for, if that is known
-abbrev pub end_sentences : List ℕ → Located → Option ℕ → Option ℕ → ℕ → ℕ → ℕ → EndShown → List ℕ
-end_sentences text l pc holder phase core retired shown.TheVariants.Finished = []
-end_sentences text l pc holder phase core retired shown.TheVariants.Fuel = task_text l.places phase core ++ fuel_text text l pc retired
-end_sentences text l pc holder phase core retired (shown.TheVariants.Trap k at value) =
+-- the sentences on how a task stands. Of a task that hasn't ended, `still` has what is known of where it stands, and of the task that
+-- holds the lock for which it waits
+abbrev pub end_sentences : List ℕ → Located → Standstill → ℕ → ℕ → ℕ → EndShown → List ℕ
+end_sentences text l still phase core retired shown.TheVariants.Finished = []
+end_sentences text l still phase core retired shown.TheVariants.Fuel = task_text l.places phase core ++ fuel_text text l still.pc retired
+end_sentences text l still phase core retired (shown.TheVariants.Trap k at value) =
     task_text l.places phase core ++ line_at text (code_place_at l.places at)
     ++ trap_sentences text l phase core k (instruction_access l.program at) value
-end_sentences text l pc holder phase core retired (shown.TheVariants.Waits lock) =
-    task_text l.places phase core ++ wait_text l.program lock.0 ++ wait_place text l pc ++ holder_text l.places phase holder ++ wait_remedy
+end_sentences text l still phase core retired (shown.TheVariants.Waits lock) =
+    task_text l.places phase core ++ wait_text l.program lock.0 ++ known_place it_waits_at text l still.pc
+    ++ holder_text text l phase still.holder still.acquired ++ wait_remedy
 
-abbrev pub ending_text : List ℕ → Located → Option ℕ → Option ℕ → TaskEnd → List ℕ
-ending_text text l pc holder t = end_sentences text l pc holder t.phase.0 t.core.0 t.retired t.end
+abbrev pub ending_text : List ℕ → Located → Standstill → TaskEnd → List ℕ
+ending_text text l still t = end_sentences text l still t.phase.0 t.core.0 t.retired t.end

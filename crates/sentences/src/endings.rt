@@ -2,10 +2,9 @@
 ghost use Rattle.std.specs.Prelude.{◌≡◌, ◌++◌, OnOk};
 ghost use Rattle.sentences.specs.Quotes.{AreSpans};
 ghost use Rattle.sentences.specs.Told.{AreTold};
-ghost use Rattle.sentences.specs.Endings.{see_loop, which_line, declares_word, the_task, declared_by_line, declared_text, task_text, code_place_at, stands_at, line_at, fuel_remedy, out_of_fuel, fuel_text, not_given_up, holds_it, holder_untold, holder_text, wait_remedy, wait_text, ending_text};
+ghost use Rattle.sentences.specs.Endings.{see_loop, which_line, declares_word, the_task, declared_by_line, declared_text, task_text, code_place_at, ended_at, place_behind, line_at, fuel_remedy, out_of_fuel, fuel_text, not_given_up, holds_it, holder_untold, holder_text, wait_remedy, wait_text, ending_text};
 
-use crate::going_on::{push_next, push_wait_place};
-use crate::quotes::push_line;
+use crate::going_on::{push_acquire_place, push_next, push_place_behind, push_wait_place};
 use crate::told::ToldEffects;
 use crate::traps::push_trap;
 use dn_base::Memory;
@@ -13,10 +12,21 @@ use region_table::{FIRST_CODE_ADDRESS, Program};
 use rv_core::{EndShown, TaskEnd};
 use src_text::Span;
 use text_pieces::{push, push_decimal};
-use text_places::{CodePlace, Located, Places, TaskPlace, push_code_place, push_lock};
+use text_places::{CodePlace, Located, Places, TaskPlace, push_lock};
 
 /// The greatest number of instructions that a task may retire.
 const MOST_FUEL: u32 = 32768;
+
+/// What is known of a task that waits for a lock or is out of fuel, at the end of a run.
+#[derive(Clone, Copy, Debug)]
+pub struct Standstill {
+    /// The address of the task's next instruction, in bytes.
+    pub pc: Option<u32>,
+    /// The core whose task holds the lock for which this task waits.
+    pub holder: Option<u32>,
+    /// The address of the ECALL by which that task acquired the lock, in bytes.
+    pub acquired: Option<u32>,
+}
 
 #[tactic(auto, unfolding(crate::specs::Endings::which_line))]
 fn push_which_line(out: &mut Vec<u8>) -> Result<(), Memory>
@@ -81,20 +91,17 @@ pub fn code_place_at(places: &Places, address: u32) -> Option<CodePlace>
     }
 }
 
-#[tactic(auto, unfolding(crate::specs::Endings::stands_at))]
-fn push_stands_at(
+#[tactic(auto, unfolding(crate::specs::Endings::ended_at))]
+fn push_ended_at(
     out: &mut Vec<u8>,
     text: &[u8],
     spans: &[Span],
     place: CodePlace,
 ) -> Result<(), Memory>
     requires { AreSpans text.now spans.now }
-    ensures { OnOk result (out.new.items ≡ out.old.items ++ stands_at text.now place) }
+    ensures { OnOk result (out.new.items ≡ out.old.items ++ place_behind ended_at text.now place) }
 {
-    push(out, b" ended at ")?;
-    push_code_place(out, place)?;
-    push(out, b":\n  ")?;
-    push_line(out, text, spans, place.line)
+    push_place_behind(out, b" ended at ", text, spans, place)
 }
 
 /// Adds where a task ended.
@@ -108,7 +115,7 @@ fn push_end(
     ensures { OnOk result (out.new.items ≡ out.old.items ++ line_at text.now place) }
 {
     match place {
-        Some(place) => push_stands_at(out, text, spans, place),
+        Some(place) => push_ended_at(out, text, spans, place),
         None => push(out, b" ended where there is no code.\n"),
     }
 }
@@ -194,19 +201,25 @@ fn push_holder_untold(out: &mut Vec<u8>) -> Result<(), Memory>
     )
 }
 
-/// Adds which task of the phase holds a lock, if its core is known.
+/// Adds which task of the phase holds a lock, if its core is known, and the line by which it acquired it, which has the address
+/// `acquired`, if that is known.
 fn push_holder(
     out: &mut Vec<u8>,
-    places: &Places,
+    text: &[u8],
+    spans: &[Span],
+    located: &Located,
     phase: u32,
     holder: Option<u32>,
+    acquired: Option<u32>,
 ) -> Result<(), Memory>
-    ensures { OnOk result (out.new.items ≡ out.old.items ++ holder_text places.now phase holder) }
+    requires { AreSpans text.now spans.now }
+    ensures { OnOk result (out.new.items ≡ out.old.items ++ holder_text text.now located.now phase holder acquired) }
 {
     match holder {
         Some(core) => {
-            push_task(out, places, phase, core)?;
-            push_holds_it(out)
+            push_task(out, &located.places, phase, core)?;
+            push_holds_it(out)?;
+            push_acquire_place(out, text, spans, located, acquired)
         }
         None => push_holder_untold(out),
     }
@@ -224,9 +237,8 @@ fn push_wait_remedy(out: &mut Vec<u8>) -> Result<(), Memory>
 
 /// Appends the sentences on how a task of the text's program stands at the end of a run; nothing if it has finished.
 ///
-/// `spans` are the places of the text's lines, and `effects` what its tasks declare. `pc` is the address of the next instruction of
-/// a task that hasn't ended, if that is known. `holder` is the core whose task holds the lock that this task waits for; None if
-/// that isn't known, or the task doesn't wait.
+/// `spans` are the places of the text's lines, and `effects` what its tasks declare. `still` has what is known of a task that waits
+/// or is out of fuel; nothing of it is said of another.
 ///
 /// # Errors
 /// `Memory` if there is no room; the text may have a part of the sentences then.
@@ -237,19 +249,18 @@ pub fn push_ending<'a>(
     effects: &ToldEffects<'a>,
     located: &'a Located,
     task: TaskEnd,
-    pc: Option<u32>,
-    holder: Option<u32>,
+    still: Standstill,
 ) -> Result<(), Memory>
     requires spans { AreSpans text.now spans.now }
     requires effects { AreTold text.now effects.now }
-    ensures { OnOk result (out.new.items ≡ out.old.items ++ ending_text text.now located.now pc holder task) }
+    ensures { OnOk result (out.new.items ≡ out.old.items ++ ending_text text.now located.now still task) }
 {
     let (phase, core) = (task.phase.0, task.core.0);
     match task.end {
         EndShown::Finished => Ok(()),
         EndShown::Fuel => {
             push_task(out, &located.places, phase, core)?;
-            push_fuel(out, text, spans, located, pc, task.retired)
+            push_fuel(out, text, spans, located, still.pc, task.retired)
         }
         EndShown::Trap {
             kind,
@@ -261,10 +272,15 @@ pub fn push_ending<'a>(
             push_trap(out, text, effects, located, (phase, core), kind, at, value)
         }
         EndShown::Waits { lock } => {
+            let Standstill {
+                pc,
+                holder,
+                acquired,
+            } = still;
             push_task(out, &located.places, phase, core)?;
             push_wait(out, &located.program, lock.0)?;
             push_wait_place(out, text, spans, located, pc)?;
-            push_holder(out, &located.places, phase, holder)?;
+            push_holder(out, text, spans, located, phase, holder, acquired)?;
             push_wait_remedy(out)
         }
     }

@@ -1,8 +1,8 @@
-//! Sentences on where a task stands that hasn't ended.
+//! Where in the code a task stands, and the loop that it is in.
 ghost use Rattle.std.specs.Prelude.{◌≡◌, ◌++◌, OnOk};
 ghost use Rattle.sentences.specs.Quotes.{AreSpans};
 ghost use Rattle.sentences.specs.Loops.{loop_around};
-ghost use Rattle.sentences.specs.Endings.{its_next, it_waits_at, in_loop_from, goes_on_at, waits_at, loop_on_line, loop_from_line, loop_text, loop_between, loop_lines, next_at, next_text, wait_line, wait_place};
+ghost use Rattle.sentences.specs.Endings.{its_next, it_waits_at, it_acquired_it_at, in_loop_from, loop_on_line, loop_from_line, loop_text, loop_between, loop_lines, next_text, place_behind, place_if, known_place};
 
 use crate::endings::code_place_at;
 use crate::loops::{Loop, loop_around};
@@ -12,52 +12,60 @@ use src_text::Span;
 use text_pieces::{push, push_decimal};
 use text_places::{CodePlace, Located, Places, push_code_place};
 
-#[tactic(auto, unfolding(crate::specs::Endings::its_next))]
-fn push_its_next(out: &mut Vec<u8>) -> Result<(), Memory>
-    ensures { OnOk result (out.new.items ≡ out.old.items ++ its_next) }
-{
-    push(out, b"  Its next instruction is at ")
-}
-
-/// Adds the line of the instruction that is next.
-#[tactic(auto, unfolding(crate::specs::Endings::goes_on_at))]
-fn push_goes_on_at(
+/// Appends a place in the code behind some words: the line of its code word, and what stands there. `spans` are the places of the
+/// text's lines.
+///
+/// # Errors
+/// `Memory` if there is no room; the text may have a part of it then.
+#[tactic(auto, unfolding(crate::specs::Endings::place_behind))]
+pub fn push_place_behind(
     out: &mut Vec<u8>,
+    words: &[u8],
     text: &[u8],
     spans: &[Span],
     place: CodePlace,
 ) -> Result<(), Memory>
     requires { AreSpans text.now spans.now }
-    ensures { OnOk result (out.new.items ≡ out.old.items ++ goes_on_at text.now place) }
+    ensures { OnOk result (out.new.items ≡ out.old.items ++ place_behind words.now text.now place) }
 {
-    push_its_next(out)?;
+    push(out, words)?;
     push_code_place(out, place)?;
     push(out, b":\n  ")?;
     push_line(out, text, spans, place.line)
 }
 
-#[tactic(auto, unfolding(crate::specs::Endings::it_waits_at))]
-fn push_it_waits_at(out: &mut Vec<u8>) -> Result<(), Memory>
-    ensures { OnOk result (out.new.items ≡ out.old.items ++ it_waits_at) }
-{
-    push(out, b"  It waits at ")
-}
-
-/// Adds the line of the ECALL by which a task waits.
-#[tactic(auto, unfolding(crate::specs::Endings::waits_at))]
-fn push_waits_at(
+fn push_place_if(
     out: &mut Vec<u8>,
+    words: &[u8],
     text: &[u8],
     spans: &[Span],
-    place: CodePlace,
+    place: Option<CodePlace>,
 ) -> Result<(), Memory>
     requires { AreSpans text.now spans.now }
-    ensures { OnOk result (out.new.items ≡ out.old.items ++ waits_at text.now place) }
+    ensures { OnOk result (out.new.items ≡ out.old.items ++ place_if words.now text.now place) }
 {
-    push_it_waits_at(out)?;
-    push_code_place(out, place)?;
-    push(out, b":\n  ")?;
-    push_line(out, text, spans, place.line)
+    match place {
+        Some(place) => push_place_behind(out, words, text, spans, place),
+        None => Ok(()),
+    }
+}
+
+/// Adds the place of the address `pc` behind some words; nothing if the address isn't known, or there is no code.
+fn push_known_place(
+    out: &mut Vec<u8>,
+    words: &[u8],
+    text: &[u8],
+    spans: &[Span],
+    located: &Located,
+    pc: Option<u32>,
+) -> Result<(), Memory>
+    requires { AreSpans text.now spans.now }
+    ensures { OnOk result (out.new.items ≡ out.old.items ++ known_place words.now text.now located.now pc) }
+{
+    match pc {
+        Some(pc) => push_place_if(out, words, text, spans, code_place_at(&located.places, pc)),
+        None => Ok(()),
+    }
 }
 
 #[tactic(auto, unfolding(crate::specs::Endings::loop_on_line))]
@@ -124,19 +132,26 @@ fn push_loop_lines(out: &mut Vec<u8>, places: &Places, found: Option<Loop>) -> R
     }
 }
 
+/// Adds the line of the instruction that is next, which is at the address `pc`.
+#[tactic(auto, unfolding(crate::specs::Endings::its_next))]
 fn push_next_at(
     out: &mut Vec<u8>,
     text: &[u8],
     spans: &[Span],
-    place: Option<CodePlace>,
+    located: &Located,
+    pc: Option<u32>,
 ) -> Result<(), Memory>
     requires { AreSpans text.now spans.now }
-    ensures { OnOk result (out.new.items ≡ out.old.items ++ next_at text.now place) }
+    ensures { OnOk result (out.new.items ≡ out.old.items ++ known_place its_next text.now located.now pc) }
 {
-    match place {
-        Some(place) => push_goes_on_at(out, text, spans, place),
-        None => Ok(()),
-    }
+    push_known_place(
+        out,
+        b"  Its next instruction is at ",
+        text,
+        spans,
+        located,
+        pc,
+    )
 }
 
 /// Adds the line of the next instruction of a task, which is at the address `pc`, and of the loop that it is in.
@@ -152,7 +167,7 @@ pub(crate) fn push_next(
 {
     match pc {
         Some(pc) => {
-            push_next_at(out, text, spans, code_place_at(&located.places, pc))?;
+            push_next_at(out, text, spans, located, Some(pc))?;
             let found = loop_around(located.program.code.as_slice(), pc);
             push_loop_lines(out, &located.places, found)
         }
@@ -160,22 +175,8 @@ pub(crate) fn push_next(
     }
 }
 
-fn push_wait_at(
-    out: &mut Vec<u8>,
-    text: &[u8],
-    spans: &[Span],
-    place: Option<CodePlace>,
-) -> Result<(), Memory>
-    requires { AreSpans text.now spans.now }
-    ensures { OnOk result (out.new.items ≡ out.old.items ++ wait_line text.now place) }
-{
-    match place {
-        Some(place) => push_waits_at(out, text, spans, place),
-        None => Ok(()),
-    }
-}
-
 /// Adds the line of the ECALL by which a task waits, which is at the address `pc`.
+#[tactic(auto, unfolding(crate::specs::Endings::it_waits_at))]
 pub(crate) fn push_wait_place(
     out: &mut Vec<u8>,
     text: &[u8],
@@ -184,10 +185,22 @@ pub(crate) fn push_wait_place(
     pc: Option<u32>,
 ) -> Result<(), Memory>
     requires { AreSpans text.now spans.now }
-    ensures { OnOk result (out.new.items ≡ out.old.items ++ wait_place text.now located.now pc) }
+    ensures { OnOk result (out.new.items ≡ out.old.items ++ known_place it_waits_at text.now located.now pc) }
 {
-    match pc {
-        Some(pc) => push_wait_at(out, text, spans, code_place_at(&located.places, pc)),
-        None => Ok(()),
-    }
+    push_known_place(out, b"  It waits at ", text, spans, located, pc)
+}
+
+/// Adds the line of the ECALL by which a task acquired the lock that it holds, which is at the address `pc`.
+#[tactic(auto, unfolding(crate::specs::Endings::it_acquired_it_at))]
+pub(crate) fn push_acquire_place(
+    out: &mut Vec<u8>,
+    text: &[u8],
+    spans: &[Span],
+    located: &Located,
+    pc: Option<u32>,
+) -> Result<(), Memory>
+    requires { AreSpans text.now spans.now }
+    ensures { OnOk result (out.new.items ≡ out.old.items ++ known_place it_acquired_it_at text.now located.now pc) }
+{
+    push_known_place(out, b"  It acquired it at ", text, spans, located, pc)
 }

@@ -34,7 +34,8 @@ mod uses;
 mod wrong_operands;
 
 pub use conflicts::push_conflict;
-pub use endings::{code_place_at, push_ending};
+pub use endings::{Standstill, code_place_at, push_ending};
+pub use going_on::push_place_behind;
 pub use laws::{
     a_name_means_what_it_is_said_to_be_declared_as, a_named_loop_is_around_the_instruction,
     a_named_range_is_the_tested_one, a_quoted_effect_claims_the_word_for_its_task,
