@@ -1,59 +1,50 @@
--- How a chart begins: with the opened machine of its program, shape and fuel.
-use Rattle.std.proofs.Common.{◌≡◌, ℕ, ◌*◌, ◌≤◌, Bool, true, false, List, length, refl, ap, subst, ◌∙◌, arith, mul-le-mul}
+-- How a chart begins, on a machine at its start, and what is known of the machine on which it is drawn.
+use Rattle.std.proofs.Common.{◌≡◌, ℕ, ◌*◌, ◌≤◌, Bool, true, false, List, [], ◌∷◌, length, Option, Some, None, refl, ap, ◌∙◌, arith, mul-le-mul}
 use Rattle.phase_barrier.specs.Barrier.{all_arrived}
 use Rattle.machine_rules.specs.Flight.{bit}
 use Rattle.machine_rules.specs.Sound.{rounds}
 use Rattle.run_chart.proofs.Noted.{same-lengths}
-use Rattle.dn_base.specs.declared.ids.Shape.{Shape}
-use Rattle.region_table.specs.Program.{ProgramParts}
-use Rattle.region_table.specs.Plan.{ArePlans}
+use Rattle.message_net.specs.declared.actor.Actor.{Actor}
 use Rattle.message_net.specs.declared.event.Event.{Event}
 use Rattle.machine_rules.specs.State.{State, initial_state}
-use Rattle.dn_machine.specs.Kept.{Made, IsKept, IsInitialMachine}
-use Rattle.dn_machine.specs.Settings.{IsSettingOf}
+use Rattle.machine_rules.specs.Next.{enabled}
+use Rattle.machine_rules.specs.declared.stepped.Stepped.{Stepped}
+use Rattle.machine_rules.proofs.RunsKept.{same-setting}
+use Rattle.dn_machine.specs.Kept.{Made, IsKept}
+use Rattle.dn_machine.specs.Tried.{IsTried}
 use Rattle.run_chart.specs.declared.drawing.Drawing.{Drawing}
 use Rattle.run_chart.specs.declared.drawing.Range.{Range}
 use Rattle.run_chart.specs.declared.charting.Frame.{Frame}
 use Rattle.run_chart.specs.declared.finishing.Columns.{Columns}
 use Rattle.run_chart.specs.declared.parts.Chart.{Chart}
-use Rattle.run_chart.specs.Charts.{drawn, chart_in, chart_of, IsChartOf, IsFinishable}
-
-setting-of : (P : ProgramParts) (machine : Shape) (most : ℕ) (m : Made) → IsInitialMachine P machine most m → IsKept m.state m.made → IsSettingOf P machine most m.state.setting
-setting-of P machine most m opens kept =
-    record {
-      program = opens.program_is;
-      plans = subst (λ (x : ProgramParts). ArePlans x m.state.setting.plans) opens.program_is kept.sound.machine.context.plans;
-      one_form = opens.plans_are;
-      shape = opens.shape_is;
-      fuel = opens.fuel_is;
-    }
+use Rattle.run_chart.specs.Charts.{drawn, chart_in, chart_of, IsFinishable}
+use Rattle.run_chart.specs.Drawing.{with_row, with_rows}
 
 made-is : (s t : State) (n k : ℕ) → s ≡ t → n ≡ k → ◌≡◌ {A = Made} (record { state = s; made = n }) (record { state = t; made = k })
 made-is s t n k states counts = rw (states, counts) refl
 
-frame-of : (m : Made) → (shape : Shape) (fuel : ℕ) (range : Range) (count : ℕ) (columns : Columns) → m.state.setting.shape ≡ shape → m.state.setting.fuel ≡ fuel
-    → ◌≡◌ {A = Frame} (record { shape = shape; fuel = fuel; range = range; events = count; columns = columns }) (record { shape = m.state.setting.shape; fuel = m.state.setting.fuel; range = range; events = count; columns = columns })
-frame-of m shape fuel range count columns shapes fuels = rw (shapes, fuels) refl
-
-chart-is : (m : Made) (shape : Shape) (fuel : ℕ) (range : Range) (chain : List ℕ) (events : List Event) (columns : Columns) → m.state ≡ initial_state m.state.setting → m.made ≡ 0 → m.state.setting.shape ≡ shape
-    → m.state.setting.fuel ≡ fuel
-    → chart_in (record { shape = shape; fuel = fuel; range = range; events = length events; columns = columns }) (drawn m range chain events) ≡ chart_of m.state.setting events range chain columns
-chart-is m shape fuel range chain events columns opens none shapes fuels =
+-- what is drawn on a machine at its start is the chart of its setting
+pub chart-of : (m : Made) (range : Range) (chain : List ℕ) (events : List Event) (columns : Columns) (frame : Frame) (chart : Chart) → m.state ≡ initial_state m.state.setting → m.made ≡ 0
+    → frame ≡ record { shape = m.state.setting.shape; fuel = m.state.setting.fuel; range = range; events = length events; columns = columns }
+    → chart ≡ chart_in frame (drawn m frame.range chain events) → chart ≡ chart_of m.state.setting events range chain columns
+chart-of m range chain events columns frame chart opens none frames charts =
     let first : m ≡ record { state = initial_state m.state.setting; made = 0 } = made-is m.state (initial_state m.state.setting) m.made 0 opens none in
-    ap (λ (f : Frame). chart_in f (drawn m range chain events)) (frame-of m shape fuel range (length events) columns shapes fuels)
+    charts ∙ ap (λ (f : Frame). chart_in f (drawn m f.range chain events)) frames
     ∙ ap (λ (x : Made). chart_in (record { shape = m.state.setting.shape; fuel = m.state.setting.fuel; range = range; events = length events; columns = columns }) (drawn x range chain events)) first
 
-pub chart-of : (P : ProgramParts) (shape : Shape) (fuel : ℕ) (m : Made) (range : Range) (chain : List ℕ) (events : List Event) (columns : Columns) (frame : Frame) (chart : Chart)
-    → IsInitialMachine P shape fuel m → IsKept m.state m.made → frame ≡ record { shape = shape; fuel = fuel; range = range; events = length events; columns = columns }
-    → chart ≡ chart_in frame (drawn m frame.range chain events) → IsChartOf P shape fuel events range chain columns chart
-chart-of P shape fuel m range chain events columns frame chart opens kept frames charts =
-    record {
-      setting = m.state.setting;
-      setting_is = setting-of P shape fuel m opens kept;
-      is =
-          charts ∙ ap (λ (f : Frame). chart_in f (drawn m f.range chain events)) frames
-          ∙ chart-is m shape fuel range chain events columns opens.state opens.made opens.shape_is opens.fuel_is;
-    }
+-- ---- events, and the rows of events, leave the setting of a machine
+
+pub tried-setting : (S T : State) (e : Event) (came : Option (Actor × Stepped)) → IsTried S T e came → T.setting ≡ S.setting
+tried-setting S T e None tried = ap (λ (U : State). U.setting) tried.1
+tried-setting S T e (Some came) tried = ap (λ (U : State). U.setting) tried.state ∙ same-setting S e
+
+pub rows-setting : (chain : List ℕ) (d : Drawing) (events : List Event) → (with_rows chain d events).machine.state.setting ≡ d.machine.state.setting
+rows-setting chain d [] = refl
+rows-setting chain d (e ∷ es) = by_test (enabled d.machine.state e) refl (rows-setting chain (with_row chain d e) es ∙ same-setting d.machine.state e) where
+  by_test : (t : Bool) → enabled d.machine.state e ≡ t → (with_rows chain (with_row chain d e) es).machine.state.setting ≡ d.machine.state.setting
+      → (with_rows chain d (e ∷ es)).machine.state.setting ≡ d.machine.state.setting
+  by_test true may later = rw may later
+  by_test false may later = rw may refl
 
 -- ---- how many mails are in flight
 

@@ -1,7 +1,7 @@
 ghost use Rattle.std.specs.Prelude.{◌≡◌, ◌+◌, ◌-◌, ◌≤◌, [], length, take, drop, IfOk, OnOk};
-ghost use Rattle.dn_machine.specs.Sizes.{FitsMachine};
+ghost use Rattle.machine_rules.specs.State.{initial_state};
 ghost use Rattle.machine_rules.specs.Sound.{IsMachine};
-ghost use Rattle.run_chart.specs.Charts.{chart_by, chart_in, drawn, last_event, leaving_in, reaches_end, waiting_at, waiting_in, IsChartOf, IsRangeDrawn, IsFinishable};
+ghost use Rattle.run_chart.specs.Charts.{chart_by, chart_in, chart_of, drawn, last_event, leaving_in, reaches_end, waiting_at, waiting_in, IsRangeDrawn, IsFinishable};
 ghost use Rattle.run_chart.specs.Drawing.{begun, empty_drawing};
 
 use crate::drawing::{Drawing, Range, pass};
@@ -10,7 +10,6 @@ use crate::mails::unknown_mails;
 use crate::{Chart, ChartRow, Fit, LeavingMail, WaitingTask};
 use dn_base::{MOST_EVENTS, Memory, Sequence, Shape};
 use dn_machine::{Machine, a_machine_is_kept};
-use effect_checker::Checked;
 use message_net::Event;
 use std::alloc::Global;
 use std::mem;
@@ -54,6 +53,13 @@ fn waiting_at(
     } else {
         Ok(Sequence::new(alloc))
     }
+}
+
+/// A chart, and the machine on which its events were made.
+#[derive(Drop)]
+pub struct Charted {
+    pub chart: Chart,
+    pub machine: Machine,
 }
 
 /// What all charts of a run have in common.
@@ -179,7 +185,8 @@ impl Drawing {
         requires rows { self.old.rows ≡ [] }
         requires few { length events.now ≤ MOST_EVENTS }
         requires most { range.most ≤ 4096 }
-        ensures { IfOk result (IsRangeDrawn self.old.machine range chain.now events.now self.new) }
+        ensures drawn { IfOk result (IsRangeDrawn self.old.machine range chain.now events.now self.new) }
+        ensures setting { OnOk result (self.new.machine.state.setting ≡ self.old.machine.state.setting) }
     {
         let (before, rest) = first_of(events, range.first);
         if !pass(&mut self.machine, before)? {
@@ -191,13 +198,14 @@ impl Drawing {
         Ok(true)
     }
 
-    /// The chart that a drawing is. Its rows go into the chart.
+    /// The chart that a drawing is. Its rows go into the chart, and its machine stays as it is.
     ///
     /// # Errors
     /// `Memory` where there is no room.
     fn finish(&mut self, alloc: Global, frame: Frame) -> Result<Chart, Memory>
         requires { IsFinishable self.old }
-        ensures { IfOk result (λ chart. chart ≡ chart_by frame self.old.rows (leaving_in self.old) (waiting_in frame.range frame.events self.old) self.old.line) }
+        ensures chart { IfOk result (λ chart. chart ≡ chart_by frame self.old.rows (leaving_in self.old) (waiting_in frame.range frame.events self.old) self.old.line) }
+        ensures machine { OnOk result (self.new.machine ≡ self.old.machine) }
     {
         // for the proof alone: the machine is well formed, and few mails are in flight
         a_machine_is_kept(&self.machine);
@@ -225,7 +233,8 @@ impl Drawing {
         requires rows { self.old.rows ≡ [] }
         requires few { length events.now ≤ MOST_EVENTS }
         requires most { frame.range.most ≤ 4096 }
-        ensures { IfOk result (λ chart. chart ≡ chart_in frame (drawn self.old.machine frame.range chain.now events.now)) }
+        ensures chart { IfOk result (λ chart. chart ≡ chart_in frame (drawn self.old.machine frame.range chain.now events.now)) }
+        ensures setting { OnOk result (self.new.machine.state.setting ≡ self.old.machine.state.setting) }
     {
         if self.draw(alloc, events, frame.range, chain)? {
             self.finish(alloc, frame)
@@ -240,43 +249,42 @@ impl Drawing {
 /// A row tells which actor makes the event, what it is and what it is about, where the message that it handles comes from, how a
 /// task ends with it, and each data word for which the actor holds something else after the event. After the rows come the
 /// messages that an event of the range sent and none of them handles and, if no event follows the range, the tasks that wait for
-/// a lock. The chart goes as far as the events are enabled one after the other, from the initial machine of the checked program,
-/// this shape and this fuel on; all events of a run may.
+/// a lock. The chart goes as far as the events are enabled one after the other, from the machine on; all events of a run may.
 ///
-/// The shape must have as many cores as the program needs, 1 to 16 banks, 1 to 256 sets and 1 to 16 ways. A task may retire
-/// `fuel` instructions, 1 to 32,768. There must be at most 25,169,664 events, and the range has at most 4,096.
+/// No event may have come on the machine, which is handed back: its program, plans and decoded code can be used again. It is as the
+/// events left it, up to the end of the range or to the first event that is not enabled; `Machine::reset` sets it back. There must
+/// be at most 25,169,664 events, and the range has at most 4,096.
 ///
 /// An event before the range is only made, and one after it isn't looked at. The cost of an event of the range grows with what it
 /// sends and takes, not with the messages in flight. It looks at the words that it may change: at one, or at a Grant or a Go at
 /// each of the core's entries. The chain is gone through once, and needn't be in order.
 ///
 /// # Errors
-/// `Memory` if there is no room for the machine, its messages or the rows.
+/// `Memory` if there is no room for the messages or the rows.
 pub fn chart(
     alloc: Global,
-    checked: Checked,
-    shape: Shape,
-    fuel: u32,
+    machine: Machine,
     events: &[Event],
     range: Range,
     chain: &[u32],
     columns: Columns,
-) -> Result<Chart, Memory>
-    requires fits { FitsMachine checked shape fuel }
+) -> Result<Charted, Memory>
+    requires initial { machine.state ≡ initial_state machine.state.setting }
+    requires made { machine.made ≡ 0 }
     requires few { length events.now ≤ MOST_EVENTS }
     requires most { range.most ≤ 4096 }
-    ensures { IfOk result (IsChartOf checked shape fuel events.now range chain.now columns) }
+    ensures chart { IfOk result (λ charted. charted.chart ≡ chart_of machine.state.setting events.now range chain.now columns) }
+    ensures setting { IfOk result (λ charted. charted.machine.state.setting ≡ machine.state.setting) }
 {
-    let machine = Machine::start(alloc, checked, shape, fuel)?;
-    // for the proof alone: no event has come, so the machine is the initial one
-    a_machine_is_kept(&machine);
     let frame = Frame {
-        shape,
-        fuel,
+        shape: machine.shape(),
+        fuel: machine.fuel(),
         range,
         events: events.len() as u32,
         columns,
     };
     let mut drawing = Drawing::new(alloc, machine);
-    drawing.chart(alloc, frame, events, chain)
+    let chart = drawing.chart(alloc, frame, events, chain)?;
+    let Drawing { machine, .. } = drawing;
+    Ok(Charted { chart, machine })
 }

@@ -68,6 +68,7 @@ pub(crate) fn pass(machine: &mut Machine, events: &[Event]) -> Result<bool, Memo
     requires few { length events.now ≤ MOST_EVENTS }
     ensures led_to { IfOk result (HaveCome machine.old machine.new events.now) }
     ensures made { OnOk result (machine.new.made ≤ length events.now) }
+    ensures setting { OnOk result (machine.new.state.setting ≡ machine.old.state.setting) }
 {
     for event in events {
         let came = machine.try_step(*event)?;

@@ -24,7 +24,7 @@ mod rows;
 mod states;
 mod words;
 
-pub use charting::chart;
+pub use charting::{Charted, chart};
 pub use choosing::keeping_of;
 pub use drawing::Range;
 pub use finishing::Columns;

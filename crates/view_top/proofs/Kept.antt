@@ -1,6 +1,5 @@
 -- The program and the run of a document, and what is made of them.
 use Rattle.std.proofs.Common.{◌≡◌, inr, ℕ, ◌≤◌, List, length, Result, Ok, Err, IfOk, IfErr, sym, ap, subst, ◌∙◌}
-use Rattle.dn_base.specs.declared.ids.Shape.{Shape}
 use Rattle.region_table.specs.Program.{ProgramParts}
 use Rattle.rv_assembler.specs.Source.{source}
 use Rattle.effect_checker.specs.Checked.{IsChecked}
@@ -24,7 +23,7 @@ use Rattle.view_top.specs.declared.documents.DocumentRun.{DocumentRun}
 use Rattle.view_top.specs.declared.documents.KeptRun.{KeptRun}
 use Rattle.view_top.specs.declared.options.StateOptions.{StateOptions}
 use Rattle.view_top.specs.Answers.{HasKeptRun, IsStateShown}
-use Rattle.view_top.specs.Kept.{kept_run_of, IsFit, IsKeptRun, IsViewable}
+use Rattle.view_top.specs.Kept.{kept_run_of, IsKeptRun, IsViewable}
 
 -- the events of a document's run are a run of its machine
 run-on : (P : ProgramParts) (t : Trace) (r : RunRecord) → IsRunTold P t r → IsRunOn P (shape_told P t.shape) t.shape.fuel r.events
@@ -71,33 +70,9 @@ module _ (document text : List ℕ) (t : Trace) (P : ProgramParts) where
       → HasTrace document (λ x. HasChecked x.text (λ Q. IsStateShown Q x o out))
   state-shown o out told same is checked h = record { trace = t; is = told; holds = record { program = P; is = ap source (sym same) ∙ is; checked = checked; holds = h } }
 
--- what holds of the program that was assembled from a text holds of the text's program
-pub of-program : (text slice : List ℕ) (Q : ProgramParts) (Holds : ProgramParts → Type 0) → slice ≡ text → source slice ≡ Ok Q → Holds Q → HasProgram text Holds
-of-program text slice Q Holds same is holds = record { program = Q; is = ap source (sym same) ∙ is; holds = holds }
-
 -- what holds of a text's program holds of each, since it has one
 pub at-program : (text : List ℕ) (P : ProgramParts) (Holds : ProgramParts → Type 0) → source text ≡ Ok P → HasProgram text Holds → Holds P
 at-program text P Holds is has = subst Holds (one-program text has.program P has.is is) has.holds
-
--- a kept run's text may be run
-pub fit : (k : KeptRun) (slice : List ℕ) → slice ≡ k.text → IsViewable k → IsFit slice
-fit k slice same can = record { program = can.run.program; is = ap source same ∙ can.run.is; checked = can.run.checked; holds = tt }
-
-module _ (k : KeptRun) (slice : List ℕ) (Q : ProgramParts) (shape : Shape) where
-  -- the run of a kept run, for the program that was assembled from its text
-  pub run-of-kept : (events : List Event) → IsViewable k → slice ≡ k.text → source slice ≡ Ok Q → shape ≡ shape_told Q k.sizes → events ≡ k.run.events → IsRunOn Q shape k.sizes.fuel events
-  run-of-kept events can same is at are =
-      subst (λ (s : Shape). IsRunOn Q s k.sizes.fuel events) (sym at)
-      (subst (λ (es : List Event). IsRunOn Q (shape_told Q k.sizes) k.sizes.fuel es) (sym are)
-      (subst (λ (P : ProgramParts). IsRunOn P (shape_told P k.sizes) k.sizes.fuel k.run.events) (one-program k.text can.run.program Q can.run.is (ap source (sym same) ∙ is)) can.run.holds))
-
-  -- what is made with that program is made of the kept run
-  pub made-of-kept : {X E : Type 0} (events : List Event) (Holds : ProgramParts → Shape → List Event → X → Type 0) (r : Result X E) → slice ≡ k.text → source slice ≡ Ok Q → shape ≡ shape_told Q k.sizes → events ≡ k.run.events
-      → IfOk r (Holds Q shape events) → IfOk r (λ x. HasProgram k.text (λ P. Holds P (shape_told P k.sizes) k.run.events x))
-  made-of-kept events Holds (Err e) same is at are holds = tt
-  made-of-kept events Holds (Ok x) same is at are holds =
-      of-program k.text slice Q (λ (P : ProgramParts). Holds P (shape_told P k.sizes) k.run.events x) same is
-      (subst (λ (es : List Event). Holds Q (shape_told Q k.sizes) es x) are (subst (λ (s : Shape). Holds Q s events x) at holds))
 
 -- what holds of the run that is handed on holds of the document's
 pub holds-of : (document : List ℕ) (k : KeptRun) (Holds : ProgramParts → KeptRun → Type 0) → HasKeptRun document (λ _ t run. k ≡ kept_run_of t run) → HasProgram k.text (λ P. Holds P k)

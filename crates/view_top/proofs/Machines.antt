@@ -20,6 +20,10 @@ use Rattle.run_timing.proofs.Started.{setting-of}
 use Rattle.run_account.specs.declared.item.Grouping.{Grouping}
 use Rattle.run_account.specs.Account.{Accounted, no_account, account_of_run}
 use Rattle.run_account.specs.Runs.{Listed, nothing_listed, count_of_run}
+use Rattle.run_chart.specs.declared.charting.Charted.{Charted}
+use Rattle.run_chart.specs.declared.drawing.Range.{Range}
+use Rattle.run_chart.specs.declared.finishing.Columns.{Columns}
+use Rattle.run_chart.specs.Charts.{chart_of, IsChartOf}
 use Rattle.page_data.specs.declared.page.Page.{Page}
 use Rattle.page_data.specs.Page.{page_text, IsPageOf}
 use Rattle.page_data.specs.declared.run_data.RunData.{RunData}
@@ -77,6 +81,10 @@ module _ (k : KeptRun) (m : Made) where
   stays-after n events (Ok x) leads is = stays n (ap (λ (S : State). S.setting) leads ∙ run-setting m.state events) is
   stays-after n events (Err e) leads is = tt
 
+  pub stays-charted : {E : Type 0} (r : Result Charted E) → IfOk r (λ charted. charted.machine.state.setting ≡ m.state.setting) → IsMachineOf k m → IfOk r (λ charted. IsMachineOf k charted.machine)
+  stays-charted (Ok x) same is = stays x.machine same is
+  stays-charted (Err e) same is = tt
+
   -- its program is that of the run's text
   pub program-of : (slice : List ℕ) (P : ProgramParts) → IsMachineOf k m → slice ≡ k.text → P ≡ m.state.setting.program → source slice ≡ Ok P
   program-of slice P is same own = ap source same ∙ is.is ∙ ap Ok (sym (own ∙ is.holds.program))
@@ -123,6 +131,19 @@ module _ (k : KeptRun) (m : Made) where
   finishes-made events ticks r is at same are =
       all-made events (λ (S : State) (es : List Event) (finishes : List ℕ). AreFinishes ticks S es finishes) (λ (P : ProgramParts) (finishes : List ℕ). AreKeptFinishes k ticks finishes P) r is at same
       (λ P finishes setting are. record { setting = m.state.setting; setting_is = setting; are = are }) are
+
+  pub chart-made : {E : Type 0} (events : List Event) (range : Range) (chain : List ℕ) (columns : Columns) (r : Result Charted E) → IsMachineOf k m → m.state ≡ initial_state m.state.setting → events ≡ k.run.events
+      → IfOk r (λ x. x.chart ≡ chart_of m.state.setting events range chain columns)
+      → IfOk r (λ x. HasProgram k.text (λ P. IsChartOf P (shape_told P k.sizes) k.sizes.fuel k.run.events range chain columns x.chart))
+  chart-made events range chain columns r is at same charted =
+      all-made events (λ (S : State) (es : List Event) (x : Charted). x.chart ≡ chart_of S.setting es range chain columns)
+      (λ (P : ProgramParts) (x : Charted). IsChartOf P (shape_told P k.sizes) k.sizes.fuel k.run.events range chain columns x.chart) r is at same
+      (λ P x setting says. record {
+        setting = m.state.setting;
+        setting_is = setting;
+        is = says ∙ ap (λ (C : Setting). chart_of C k.run.events range chain columns) (opened-setting m.state.setting);
+      })
+      charted
 
   pub page-made : {E : Type 0} (events : List Event) (page : Page) (r : Result (List ℕ) E) → IsMachineOf k m → m.state ≡ initial_state m.state.setting → events ≡ k.run.events
       → IfOk r (λ text. text ≡ page_text m.state.setting events page) → IfOk r (λ bytes. HasProgram k.text (λ P. IsPageOf P (shape_told P k.sizes) k.sizes.fuel k.run.events page bytes))

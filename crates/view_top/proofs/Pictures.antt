@@ -48,14 +48,13 @@ drawn-is o text chart L picture out is places says answer =
     let here : L ≡ located L.program text = rw (sym places) refl in
     record { program = L.program; is = is; holds = answer ∙ ap made (says ∙ ap (λ (x : Located). svg_of (kept_by o x chart) x) here) }
 
-pub picture-is : {E : Type 0} (k : KeptRun) (o : ChartOptions) (chain numbers text : List ℕ) (range : Range) (chart : Chart) (r : Result Output E) → o.first ≤ last_number k.run.events → range ≡ range_for o → numbers ≡ chain → text ≡ k.text
+pub picture-is : {E : Type 0} (k : KeptRun) (o : ChartOptions) (chain numbers : List ℕ) (range : Range) (chart : Chart) (r : Result Output E) → o.first ≤ last_number k.run.events → range ≡ range_for o → numbers ≡ chain
     → HasProgram k.text (IsKeptChain k (chart_ticks o) chain) → HasProgram k.text (λ P. IsChartOf P (shape_told P k.sizes) k.sizes.fuel k.run.events range numbers o.picture.columns chart)
-    → IfOk r (λ out. HasProgram text (λ P. out ≡ made (svg_of (kept_by o (located P text) chart) (located P text)))) → IfOk r (λ out. HasProgram k.text (λ P. IsPicture (located P k.text) k.sizes o k.run.events out))
-picture-is k o chain numbers text range chart (Err e) within range_is same here chained charted drawn = tt
-picture-is k o chain numbers text range chart (Ok out) within range_is same here chained charted drawn =
+    → IfOk r (λ out. HasProgram k.text (λ P. out ≡ made (svg_of (kept_by o (located P k.text) chart) (located P k.text)))) → IfOk r (λ out. HasProgram k.text (λ P. IsPicture (located P k.text) k.sizes o k.run.events out))
+picture-is k o chain numbers range chart (Err e) within range_is same chained charted drawn = tt
+picture-is k o chain numbers range chart (Ok out) within range_is same chained charted drawn =
     let P = charted.program in
     let c = at-program k.text P (λ (Q : ProgramParts). IsKeptChain k (chart_ticks o) chain Q) charted.is chained in
-    let named = subst (λ (x : List ℕ). HasProgram x (λ (Q : ProgramParts). out ≡ made (svg_of (kept_by o (located Q x) chart) (located Q x)))) here drawn in
     record {
       program = P;
       is = charted.is;
@@ -68,7 +67,7 @@ picture-is k o chain numbers text range chart (Ok out) within range_is same here
             is =
                 subst (λ (x : List ℕ). IsChartOf P (shape_told P k.sizes) k.sizes.fuel k.run.events (range_for o) x o.picture.columns chart) (same ∙ c.is)
                 (subst (λ (x : Range). IsChartOf P (shape_told P k.sizes) k.sizes.fuel k.run.events x numbers o.picture.columns chart) range_is charted.holds);
-            answer = at-program k.text P (λ (Q : ProgramParts). out ≡ made (svg_of (kept_by o (located Q k.text) chart) (located Q k.text))) charted.is named;
+            answer = at-program k.text P (λ (Q : ProgramParts). out ≡ made (svg_of (kept_by o (located Q k.text) chart) (located Q k.text))) charted.is drawn;
           };
     }
 

@@ -20,10 +20,6 @@ use Rattle.view_top.specs.declared.documents.KeptRun.{KeptRun}
 abbrev pub kept_run_of : Trace → RunRecord → KeptRun
 kept_run_of t run = record { sizes = t.shape; text = t.text; run = run }
 
--- the text has a program whose tasks don't conflict: it may be run
-abbrev pub IsFit : List ℕ → Type 0
-IsFit text = HasChecked text (λ P. Unit {0})
-
 -- the run of what a document tells is kept, and may be printed
 pub record IsKeptRun (P : ProgramParts) (t : Trace) (k : KeptRun) : Type 0 where
   pub told : IsRunTold P t k.run

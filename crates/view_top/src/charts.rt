@@ -1,5 +1,5 @@
 //! The mode chart: the message chart of a run.
-ghost use Rattle.std.specs.Prelude.{◌≡◌, ◌≤◌, IfOk, IfErr};
+ghost use Rattle.std.specs.Prelude.{◌≡◌, ◌≤◌, IfOk, IfErr, OnOk};
 ghost use Rattle.run_timing.specs.Longest.{numbers_in};
 ghost use Rattle.run_timing.specs.Ticks.{AreWithinLimits};
 ghost use Rattle.run_chart.specs.Picture.{svg_of};
@@ -9,15 +9,16 @@ ghost use Rattle.checked_runs.specs.Documents.{IsRefusedDocument, shape_told};
 ghost use Rattle.view_top.specs.declared.options.View.TheVariants as view;
 ghost use Rattle.view_top.specs.Answers.{chart_ticks, kept_by, last_number, located, made, range_for, view_made, IsDrawn, IsPicture};
 ghost use Rattle.view_top.specs.Command.{IsChartInRange};
-ghost use Rattle.view_top.specs.Kept.{IsFit, IsKeptChain, IsViewable};
+ghost use Rattle.view_top.specs.Kept.{IsKeptChain, IsMachineOf, IsViewable};
 
 use crate::ChartOptions;
 use crate::answering::{Output, done_with, refused_words};
-use crate::documents::{KeptRun, kept_run, places_in, program_in, shape_of};
-use crate::timings::timing_of;
+use crate::documents::{DocumentRun, KeptRun, begin_again, document_run, located_on};
+use crate::timings::timing_on;
 use dn_base::{Memory, Sequence};
+use dn_machine::Machine;
 use message_net::Event;
-use run_chart::{Chart, Columns, Range, chart, chart_text, keeping_of, kept_chart};
+use run_chart::{Chart, Charted, Columns, Range, chart, chart_text, keeping_of, kept_chart};
 use run_report::Stop;
 use run_timing::{Link, Ticks};
 use std::alloc::Global;
@@ -60,33 +61,48 @@ fn numbers_in(alloc: Global, links: &[Link]) -> Result<Sequence<u32>, Memory>
     Ok(numbers)
 }
 
-/// The numbers of the events of a run's longest chain, by the options' ticks.
-fn chain_of(alloc: Global, options: &ChartOptions, kept: &KeptRun) -> Result<Sequence<u32>, Memory>
+/// The numbers of the events of a run's longest chain, by the options' ticks, on the run's machine.
+fn chain_of(
+    alloc: Global,
+    options: &ChartOptions,
+    kept: &KeptRun,
+    machine: &mut Machine,
+) -> Result<Sequence<u32>, Memory>
     requires limits { IsChartInRange options.now }
     requires kept { IsViewable kept.now }
-    ensures { IfOk result (λ chain. HasProgram kept.now.text (IsKeptChain kept.now (chart_ticks options.now) chain)) }
+    requires machine { IsMachineOf kept.now machine.old }
+    ensures chain { IfOk result (λ chain. HasProgram kept.now.text (IsKeptChain kept.now (chart_ticks options.now) chain)) }
+    ensures machine { OnOk result (IsMachineOf kept.now machine.new) }
 {
-    let timing = timing_of(alloc, kept, &chart_ticks(options))?;
+    let timing = timing_on(alloc, kept, machine, &chart_ticks(options))?;
     numbers_in(alloc, timing.links.as_slice())
 }
 
-/// The chart of a run, with this range of events and this chain.
+/// The chart of a run, made on its machine, with this range of events and this chain.
 fn chart_of(
     alloc: Global,
     kept: &KeptRun,
+    machine: Machine,
     range: Range,
     chain: &[u32],
     columns: Columns,
-) -> Result<Chart, Memory>
+) -> Result<Charted, Memory>
     requires kept { IsViewable kept.now }
+    requires machine { IsMachineOf kept.now machine }
     requires most { range.most ≤ 4096 }
-    ensures { IfOk result (λ chart. HasProgram kept.now.text (λ P. IsChartOf P (shape_told P kept.now.sizes) kept.now.sizes.fuel kept.now.run.events range chain.now columns chart)) }
+    ensures chart { IfOk result (λ charted. HasProgram kept.now.text (λ P. IsChartOf P (shape_told P kept.now.sizes) kept.now.sizes.fuel kept.now.run.events range chain.now columns charted.chart)) }
+    ensures machine { IfOk result (λ charted. IsMachineOf kept.now charted.machine) }
 {
-    let program = program_in(alloc, kept.text.as_slice())?;
-    let shape = shape_of(kept.sizes, &program);
-    let fuel = kept.sizes.fuel;
-    let events = kept.run.events.as_slice();
-    chart(alloc, program, shape, fuel, events, range, chain, columns)
+    let mut machine = machine;
+    begin_again(alloc, kept, &mut machine)?;
+    chart(
+        alloc,
+        machine,
+        kept.run.events.as_slice(),
+        range,
+        chain,
+        columns,
+    )
 }
 
 /// The picture of what the options keep of a chart, with the names of a text.
@@ -106,52 +122,68 @@ fn picture_of(
     chart_text(alloc, &kept, text)
 }
 
-/// What the options keep of a chart drawn, with the names of the text.
+/// What the options keep of a chart drawn, with the names that its machine's program has in the text.
 fn draw_named(
     alloc: Global,
     options: &ChartOptions,
-    chart: &Chart,
-    text: &[u8],
+    kept: &KeptRun,
+    charted: Charted,
 ) -> Result<Output, Memory>
-    requires { IsFit text.now }
-    ensures { IfOk result (λ out. HasProgram text.now (λ P. out ≡ made (svg_of (kept_by options.now (located P text.now) chart.now) (located P text.now)))) }
+    requires { IsMachineOf kept.now charted.machine }
+    ensures { IfOk result (λ out. HasProgram kept.now.text (λ P. out ≡ made (svg_of (kept_by options.now (located P kept.now.text) charted.chart) (located P kept.now.text)))) }
 {
-    let located = places_in(alloc, text)?;
-    let picture = picture_of(alloc, options, chart, &located);
+    let Charted { chart, machine } = charted;
+    let located = located_on(alloc, kept, machine)?;
+    let picture = picture_of(alloc, options, &chart, &located);
     // for the prover alone: one call drops the names and the program, in place of the drops of all their parts at each exit
     drop(located);
     Ok(done_with(picture?))
 }
 
-/// The picture of a run's chart.
-fn picture(alloc: Global, options: &ChartOptions, kept: &KeptRun) -> Result<Output, Memory>
+/// The picture of a run's chart, made on the run's machine.
+fn picture(
+    alloc: Global,
+    options: &ChartOptions,
+    kept: &KeptRun,
+    machine: Machine,
+) -> Result<Output, Memory>
     requires limits { IsChartInRange options.now }
     requires within { options.now.first ≤ last_number kept.now.run.events }
     requires kept { IsViewable kept.now }
+    requires machine { IsMachineOf kept.now machine }
     ensures { IfOk result (λ out. HasProgram kept.now.text (λ P. IsPicture (located P kept.now.text) kept.now.sizes options.now kept.now.run.events out)) }
 {
-    let chain = chain_of(alloc, options, kept)?;
-    let range = range_for(options);
-    let chart = chart_of(
+    let mut machine = machine;
+    let chain = chain_of(alloc, options, kept, &mut machine)?;
+    let charted = chart_of(
         alloc,
         kept,
-        range,
+        machine,
+        range_for(options),
         chain.as_slice(),
         options.picture.columns,
     )?;
-    draw_named(alloc, options, &chart, kept.text.as_slice())
+    draw_named(alloc, options, kept, charted)
 }
 
 /// The picture of a run's chart, or the refusal of a picture that would begin after the run's last event.
-fn draw(alloc: Global, options: &ChartOptions, kept: &KeptRun) -> Result<Output, Memory>
+fn draw(
+    alloc: Global,
+    options: &ChartOptions,
+    kept: &KeptRun,
+    machine: Machine,
+) -> Result<Output, Memory>
     requires limits { IsChartInRange options.now }
     requires kept { IsViewable kept.now }
+    requires machine { IsMachineOf kept.now machine }
     ensures { IfOk result (λ out. HasProgram kept.now.text (λ P. IsDrawn (located P kept.now.text) kept.now.sizes options.now kept.now.run out)) }
 {
     if options.first as usize > last_number(kept.run.events.as_slice()) {
+        // for the prover alone: one call drops the machine, in place of the drops of all its parts
+        drop(machine);
         return refused_words(alloc);
     }
-    picture(alloc, options, kept)
+    picture(alloc, options, kept, machine)
 }
 
 /// The chart of a trace's run.
@@ -164,8 +196,9 @@ pub(crate) fn draw_document(
     ensures made { IfOk result (view_made (view.Chart options.now) document.now) }
     ensures stop { IfErr result (IsStop (IsRefusedDocument document.now)) }
 {
-    let kept = kept_run(alloc, document)?;
-    let drawn = draw(alloc, options, &kept);
+    let told = document_run(alloc, document)?;
+    let DocumentRun { kept, machine } = told;
+    let drawn = draw(alloc, options, &kept, machine);
     // for the prover alone, as in `draw_named`
     drop(kept);
     Ok(drawn?)

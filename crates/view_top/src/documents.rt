@@ -8,7 +8,7 @@ ghost use Rattle.machine_rules.specs.Runs.{IsRun};
 ghost use Rattle.run_report.specs.Texts.{IsStop};
 ghost use Rattle.checked_runs.specs.Documents.{IsMachineTold, IsRefusedDocument, shape_told, IsNoRun};
 ghost use Rattle.view_top.specs.Answers.{HasKeptRun};
-ghost use Rattle.view_top.specs.Kept.{kept_run_of, IsFit, IsKeptRun, IsMachineOf, IsViewable};
+ghost use Rattle.view_top.specs.Kept.{kept_run_of, IsKeptRun, IsMachineOf, IsViewable};
 
 use checked_runs::{machine_told, run_told_on, shape_told, trace_in};
 use dn_base::{Memory, Sequence, Shape};
@@ -16,9 +16,8 @@ use dn_machine::{Machine, MachineParts, RunRecord, a_machine_is_kept};
 use effect_checker::Checked;
 use run_replay::{Trace, TraceShape};
 use run_report::{Stop, checked_of};
-use rv_assembler::SourceFault;
 use std::alloc::Global;
-use text_places::{Located, located_program, text_places};
+use text_places::{Located, text_places};
 
 /// The run of a trace, with the size of its machine and its text.
 #[derive(Drop)]
@@ -41,37 +40,6 @@ pub(crate) fn shape_of(sizes: TraceShape, checked: &Checked) -> Shape
     ensures { result ≡ shape_told checked.now sizes }
 {
     shape_told(sizes, checked.program())
-}
-
-/// The checked program of a text that may be run.
-///
-/// # Errors
-/// `Memory` where there is no room, and for nothing else: such a text isn't refused.
-pub(crate) fn program_in(alloc: Global, text: &[u8]) -> Result<Checked, Memory>
-    requires { IsFit text.now }
-    ensures { IfOk result (λ program. source text.now ≡ Ok program) }
-{
-    match checked_of(alloc, text) {
-        Ok(program) => Ok(program),
-        Err(Stop::Memory) => Err(Memory),
-        Err(Stop::Refused(_)) => unreachable!(),
-    }
-}
-
-/// The program of a text that may be run, with the lines of its parts.
-///
-/// # Errors
-/// `Memory` where there is no room, and for nothing else: such a text has no fault.
-pub(crate) fn places_in(alloc: Global, text: &[u8]) -> Result<Located, Memory>
-    requires { IsFit text.now }
-    ensures program { IfOk result (λ located. source text.now ≡ Ok located.program) }
-    ensures places { IfOk result (λ located. located.places ≡ text_places text.now) }
-{
-    match located_program(alloc, text) {
-        Ok(located) => Ok(located),
-        Err(SourceFault::Memory) => Err(Memory),
-        Err(_) => unreachable!(),
-    }
 }
 
 /// The same bytes once more.
@@ -132,21 +100,6 @@ pub(crate) fn document_run(alloc: Global, document: &[u8]) -> Result<DocumentRun
     // for the proof alone: the machine is sound, so that its plans are those of its program
     a_machine_is_kept(&machine);
     made_on(alloc, trace, machine)
-}
-
-/// The run of a trace, without its machine.
-///
-/// # Errors
-/// Those of `document_run`.
-pub(crate) fn kept_run(alloc: Global, document: &[u8]) -> Result<KeptRun, Stop>
-    ensures kept { IfOk result (λ kept. HasKeptRun document.now (λ _ trace run. kept ≡ kept_run_of trace run)) }
-    ensures ready { IfOk result IsViewable }
-    ensures stop { IfErr result (IsStop (IsRefusedDocument document.now)) }
-{
-    let DocumentRun { kept, machine } = document_run(alloc, document)?;
-    // for the prover alone: one call drops the machine, in place of the drops of all its parts
-    drop(machine);
-    Ok(kept)
 }
 
 /// Sets the machine of a kept run back to its start, so that the run's events can be made on it again.

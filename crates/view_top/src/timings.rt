@@ -1,13 +1,13 @@
 //! The timing of a trace's run.
-ghost use Rattle.std.specs.Prelude.{◌≡◌, IfOk, OnOk};
+ghost use Rattle.std.specs.Prelude.{IfOk, OnOk};
 ghost use Rattle.run_timing.specs.Ticks.{AreWithinLimits};
 ghost use Rattle.run_report.specs.Texts.{HasProgram};
 ghost use Rattle.view_top.specs.Kept.{IsKeptTiming, IsMachineOf, IsViewable};
 
-use crate::documents::{KeptRun, begin_again, program_in, shape_of};
+use crate::documents::{KeptRun, begin_again};
 use dn_base::Memory;
 use dn_machine::Machine;
-use run_timing::{Ticks, Timing, time_events, time_run};
+use run_timing::{Ticks, Timing, time_events};
 use std::alloc::Global;
 
 /// The timing of a run on its machine, by these ticks.
@@ -25,23 +25,4 @@ pub(crate) fn timing_on(
 {
     begin_again(alloc, kept, machine)?;
     time_events(alloc, machine, kept.run.events.as_slice(), ticks)
-}
-
-/// The timing of a run whose machine is not at hand, by these ticks: the run's text is assembled again.
-pub(crate) fn timing_of(alloc: Global, kept: &KeptRun, ticks: &Ticks) -> Result<Timing, Memory>
-    requires kept { IsViewable kept.now }
-    requires ticks { AreWithinLimits ticks.now }
-    ensures { IfOk result (λ timing. HasProgram kept.now.text (IsKeptTiming kept.now ticks.now timing)) }
-{
-    let program = program_in(alloc, kept.text.as_slice())?;
-    let shape = shape_of(kept.sizes, &program);
-    let fuel = kept.sizes.fuel;
-    time_run(
-        alloc,
-        program,
-        shape,
-        fuel,
-        kept.run.events.as_slice(),
-        ticks,
-    )
 }

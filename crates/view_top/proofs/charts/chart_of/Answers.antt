@@ -1,17 +1,15 @@
-use Rattle.std.proofs.Common.{List}
-use Rattle.dn_base.specs.declared.ids.Shape.{Shape}
-use Rattle.region_table.specs.Program.{ProgramParts}
+use Rattle.std.proofs.Common.{◌≤◌, List, length, sym, subst}
 use Rattle.message_net.specs.declared.event.Event.{Event}
-use Rattle.run_chart.specs.declared.parts.Chart.{Chart}
-use Rattle.run_chart.specs.Charts.{IsChartOf}
-use Rattle.view_top.proofs.Kept.{fit, made-of-kept}
+use Rattle.view_top.proofs.Machines.{chart-made, stays-charted}
 use Rattle.view_top.proofs.charts.chart_of.Goals as goal
 
-pub program_in-requires : goal.program_in-requires
-program_in-requires c = fit c.args.kept.now c.as_slice.result.now c.as_slice.ensures c.requires.kept
+pub chart-requires-clause-few : goal.chart-requires-clause-few
+chart-requires-clause-few c = subst (λ (es : List Event). length es ≤ 25169664) (sym c.as_slice.ensures) c.requires.kept.few
 
-pub returns : goal.returns
-returns c =
-    made-of-kept c.args.kept.now c.as_slice.result.now c.in_ok-program.program c.shape_of-shape.result c.as_slice-events.result.now
-    (λ (P : ProgramParts) (s : Shape) (es : List Event) (x : Chart). IsChartOf P s c.args.kept.now.sizes.fuel es c.args.range c.args.chain.now c.args.columns x) c.chart.result c.as_slice.ensures c.in_ok-program.ensures
-    c.shape_of-shape.ensures c.as_slice-events.ensures c.chart.ensures
+pub returns-clause-chart : goal.returns-clause-chart
+returns-clause-chart c =
+    chart-made c.args.kept.now c.begin_again.new.machine c.as_slice.result.now c.args.range c.args.chain.now c.args.columns c.chart.result c.in_ok-begin_again.ensures.machine
+    c.in_ok-begin_again.ensures.initial c.as_slice.ensures c.chart.ensures.chart
+
+pub returns-clause-machine : goal.returns-clause-machine
+returns-clause-machine c = stays-charted c.args.kept.now c.begin_again.new.machine c.chart.result c.chart.ensures.setting c.in_ok-begin_again.ensures.machine
