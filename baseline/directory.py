@@ -463,6 +463,8 @@ def main():
         o = words.parse_args()
         if o.sets % o.line:
             words.error("--sets is a multiple of --line")
+        if o.order == "seed" and o.form == "log":
+            words.error("a log has the times of time order")
     except SystemExit as stop:
         return 1 if stop.code else 0
     text = sys.stdin.buffer.read()
@@ -472,19 +474,19 @@ def main():
         print("directory.py: the text doesn't assemble: %s" % why, file=sys.stderr)
         return 2
     machine = Directory(program, o.banks, o.sets, o.ways, o.fuel, o.line, o.states, o.shared, o.stores, o.pointers)
-    log, ticks = Log(machine), 0
-    note = log.note if o.form == "log" else None
+    log, ticks = Log(machine), []
     if o.order == "time":
         network = Network(machine.cores, o.banks, o.latency, o.net)
-        ticks = in_time_order(machine, ticks_by(o.tick_core, o.tick_bank, o.tick_mail), network, o.tick_word, note)
+        note = log.note if o.form == "log" else None
+        ticks = ["ticks %d" % in_time_order(machine, ticks_by(o.tick_core, o.tick_bank, o.tick_mail), network, o.tick_word, note)]
     else:
-        in_drawn_order(machine, o.seed, True, note)
+        in_drawn_order(machine, o.seed)
     if o.form == "claim":
         sys.stdout.buffer.write(machine.claim(text))
     elif o.form == "log":
         print("\n".join(log.lines))
     else:
-        print("\n".join(["ticks %d" % ticks] + ["count %s %d bytes %d" % (kind, machine.counts[kind], machine.bytes_of(kind)) for kind in KINDS[3:]]))
+        print("\n".join(ticks + ["count %s %d bytes %d" % (kind, machine.counts[kind], machine.bytes_of(kind)) for kind in KINDS[3:]]))
     return 0
 
 

@@ -91,7 +91,7 @@ class Pairs:
         return mail
 
 
-def in_drawn_order(machine, seed, weighted=True, note=None):
+def in_drawn_order(machine, seed, weighted=True):
     """Draws each event from all that may come. With weights some cores and some pairs are slow for a while: each has a weight, which is drawn
     anew at one event of 100."""
     draw, pairs, weights = random.Random(seed), Pairs(), {}
@@ -107,10 +107,8 @@ def in_drawn_order(machine, seed, weighted=True, note=None):
         else:
             event, who = draw.choice(able)
         mail = pairs.take(who) if event is None else None
-        kind, sent = machine.make(event, mail)
+        _, sent = machine.make(event, mail)
         pairs.add(sent)
-        if note is not None:
-            note(event[1] if event else mail[2], kind, mail, 0, 0, sent)
 
 
 def one_at_a_time(machine, seed):
