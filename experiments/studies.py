@@ -64,6 +64,20 @@ def numbers_of(row, text):
     return OUTCOMES.get(status), found
 
 
+def refused(texts):
+    """What `denovo --mode check` says of those of the texts that it doesn't take."""
+    for text in sorted(set(texts)):
+        status, line = said("denovo", "--mode", "check", given=text)
+        if status != 0:
+            yield "a text is refused: %s" % line.decode().strip()
+
+
+def texts_beside_the_directory():
+    """The texts of the study beside the directory machine."""
+    made = script(TOP / "baseline/texts.py")
+    return [made.make(name, cores).encode() for name in made.NAMES for cores in (4, 8, 16)]
+
+
 def columns_of(row):
     """The columns of a row that are numbers of its run."""
     names = list(row)
@@ -83,11 +97,7 @@ def sample(rows):
 def differences(path, sweep, patterns):
     """What is wrong with the texts of a table, with a sample of its rows, and with the means beside it."""
     rows = table(path)
-    texts = {text_of(row, sweep, patterns) for row in rows}
-    for text in sorted(texts):
-        status, line = said("denovo", "--mode", "check", given=text)
-        if status != 0:
-            yield "a text is refused: %s" % line.decode().strip()
+    yield from refused(text_of(row, sweep, patterns) for row in rows)
     for row in sample(rows):
         outcome, found = numbers_of(row, text_of(row, sweep, patterns))
         if row["outcome"] != outcome:
