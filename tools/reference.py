@@ -5,7 +5,9 @@ It is written from docs/PROTOCOL.md, docs/LANGUAGE.md and the rules of the machi
 standard library, and it is no part of the proved program: it stands here so that the outputs in crates/worked_rows/data have
 somewhere else to come from. It takes texts that assemble and check; it refuses none properly.
 
-    tools/reference.py [WORDS] < TEXT       what the program has to write, for the words of all modes but check and list
+    tools/reference.py [WORDS] < TEXT       what the program has to write, for the words of all modes but check and list. With `--order time`
+                                            the next event is that which can start first, and no seed is used; `--latency N` and
+                                            `--net uniform|mesh` say how long messages are on their way
     tools/reference.py script FILE [WORDS] < TEXT
                                             the same for a script of events (crates/worked_rows/data/README.md has the form)
     tools/reference.py events [WORDS] < TEXT
@@ -20,12 +22,12 @@ somewhere else to come from. It takes texts that assemble and check; it refuses 
     tools/reference.py state [N] < DOCUMENT the state before event N of a document, from 0, and which events may come there, in the lines
                                             of docs/VIEWS.md
     tools/reference.py chart [--first=N] [--rows=N] [--tick-core=N] [--tick-bank=N] [--tick-mail=N] [--columns=used]
-                             [--plain=off|lines] [--words=LIST] [--actors=LIST] [--fit=slide] < DOCUMENT
+                             [--plain=off|lines] [--words=LIST] [--actors=LIST] [--fit=slide] [--latency=N] [--net=mesh] < DOCUMENT
                                             the message chart of a document that replays, by docs/VIEWS.md
-    tools/reference.py page [FIRST [ROWS [NAME]]] < DOCUMENT
+    tools/reference.py page [FIRST [ROWS [NAME]]] [--latency=N] [--net=mesh] < DOCUMENT
                                             the data of the page of a document's run, from event FIRST on (0) with ROWS events at most
                                             (4096), with the ticks 1, 10 and 5
-    tools/reference.py data [FIRST [ROWS]] < DOCUMENT
+    tools/reference.py data [FIRST [ROWS]] [--latency=N] [--net=mesh] < DOCUMENT
                                             the data of a document's run for other tools, from event FIRST on (0), all events or ROWS at most
     tools/reference.py states [FIRST [ROWS]] < DOCUMENT
                                             the state before each event of the page and behind the last one, one fact a line, with an empty

@@ -6,6 +6,7 @@ None imports one that stands below it in this list:
     isa, signatures, kinds              instructions; signatures; kinds of events and rows of tables
     texts, work                         texts of the language, and the generated one
     task, one_memory, parts, machine    one task; tasks on one memory; cores, banks and keeper; the machine
+    time_order                          a run in time order, and the network
     prove, ticks, report                the prover of effects; the longest chain; what is written of a run
     outcomes                            what every run of a text has in common
     documents, readers, chart, accounts the document of a run, and what is shown of one
@@ -36,13 +37,14 @@ from .state_text import StateText, state
 from .sweep import checksum, sweep
 from .task import TaskState
 from .texts import Program, Task, Unfit, assemble, statements
-from .ticks import longest, ticks_by, timed, timing
+from .ticks import longest, ticks_by, timed
+from .time_order import Network, run_in_time_order
 from .work import work_text
 
 __all__ = [
-    "COUNTER", "CROSSED", "Chart", "IDLE", "KINDS", "LIST_MEASURES", "MARKS", "MEASURES", "Machine", "ONE_PLACE", "PART", "Pcg32", "Program", "ROWS", "SHARED", "STALE",
+    "COUNTER", "CROSSED", "Chart", "IDLE", "KINDS", "LIST_MEASURES", "MARKS", "MEASURES", "Machine", "Network", "ONE_PLACE", "PART", "Pcg32", "Program", "ROWS", "SHARED", "STALE",
     "STATUS", "STORE_FIVE", "StateText", "TRAP", "Task", "TaskState", "Unfit", "account", "agree_with_flat", "answer", "answer_text", "assemble", "batch", "claim",
     "against", "checksum", "claim_text", "count_text", "decode", "diagnosed", "document", "event_line", "event_of", "expanded", "flat", "grant_text", "instruction_text", "judged",
     "lists", "longest", "opened", "options", "outcome", "outcomes", "outcomes_text", "page", "play", "proved", "read_case", "read_document", "readers_answer", "replayed",
-    "rows", "run_cases", "run_data", "run_text", "sections", "settled",
-    "state", "state_lines", "statements", "states", "summary", "sweep", "ticks_by", "timed", "timing", "work_text"]
+    "rows", "run_cases", "run_data", "run_in_time_order", "run_text", "sections", "settled",
+    "state", "state_lines", "statements", "states", "summary", "sweep", "ticks_by", "timed", "work_text"]

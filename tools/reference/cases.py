@@ -110,7 +110,9 @@ def run_cases(folder, only=None):
                 text = case.get("text", [b""])[0].decode("utf-8", "replace")
                 words = case.get("words", "").split()
                 refused = case["exit"] not in ("0", "3", "4", "5", "7") or case["output"][0].startswith(b"refus")
-                if "check" in words or "list" in words or refused and not case["output"][0].startswith(b"refused trace "):
+                # of the words it refuses only those of the order and of the network
+                by_order = case["exit"] == "1" and re.search(r"--(order|latency|net)\b", " ".join(words)) is not None
+                if "check" in words or "list" in words or refused and not by_order and not case["output"][0].startswith(b"refused trace "):
                     left += 1
                     continue
                 reached_rows.clear()
@@ -136,12 +138,12 @@ def run_cases(folder, only=None):
                 for row_reached in reached_rows:
                     rows_reached[row_reached] += 1
                 # a run of several workers may have other events each time
-                if options(words)["workers"] == 1:
+                if not by_order and options(words)["workers"] == 1:
                     for kind in KINDS:
                         reached[kind] += bool(re.search(rb"^count %s [1-9]" % kind.encode(), output, re.M))
                 agree, differ = agree + good, differ + (not good)
                 times += len(searched) if case["exit"] != "7" else 0
-                runs += "script" in case or (case["exit"] != "7" and options(words)["mode"] == "run")
+                runs += "script" in case or (case["exit"] != "7" and not by_order and options(words)["mode"] == "run")
                 if not good:
                     print("%s (%s): exit code %d, and the output is" % (title, row, status))
                     print(output.decode(), end="")

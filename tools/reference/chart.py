@@ -4,7 +4,8 @@ from .documents import read_document
 from .isa import instruction_text
 from .machine import Machine
 from .texts import assemble, code_lines
-from .ticks import ticks_by, timed
+from .ticks import longest, ticks_by
+from .time_order import Network
 
 CHART_STYLE = """<style>.denovo-chart{color-scheme:light dark}.denovo-ground{fill:#fff}.denovo-odd{fill:#edf2f7}.denovo-rule{stroke:#7d8b99}.denovo-lane{stroke:#b4bac0}
 .denovo-mail,.denovo-cut{stroke:#26598c;fill:none}.denovo-cut{stroke-dasharray:7 4}.denovo-event,.denovo-head{fill:#26598c}
@@ -40,13 +41,14 @@ class Chart:
     begin their line), those that have nothing to do with these words, and those of other actors; words and actors are lists of names with
     commas between them."""
 
-    def __init__(self, data, first=0, most=1000, ticks=(1, 10, 5), used=False, plain="on", words="", actors="", slide=False):
+    def __init__(self, data, first=0, most=1000, ticks=(1, 10, 5), used=False, plain="on", words="", actors="", slide=False,
+                 latency=0, net="uniform"):
         sizes, text, self.events = read_document(data)
         self.first, self.total = first, len(self.events)
         self.program = assemble(text.decode("utf-8", "replace"))
         self.machine = Machine(self.program, *sizes)
         self.lines_of_code = code_lines(text.decode("utf-8", "replace"))
-        self.chain = self.longest(sizes, ticks)
+        self.chain = self.longest(sizes, ticks, latency, net)
         self.rows, self.sent, self.line = [], {}, 0
         for number, event in enumerate(self.events[:first + most]):
             if number < first:
@@ -94,16 +96,17 @@ class Chart:
         if parts:
             self.note = "; kept %d of %d events:%s" % (len(rows), self.counted, ";".join(parts))
 
-    def longest(self, sizes, ticks):
-        """The numbers of the events of the longest chain, where a core's own event, one of a bank and another take so many ticks."""
-        kinds = ticks_by(*ticks)
+    def longest(self, sizes, ticks, latency, net):
+        """The numbers of the events of the longest chain, where a core's own event, one of a bank and another take so many ticks, and a
+        message so many for each hop."""
         machine = Machine(self.program, *sizes)
+        network = Network(machine.cores, machine.banks, latency, net)
 
         def again(trace):
             for event in self.events:
                 trace(event)
                 machine.step(event)
-        return {int(line.split()[1]) for line in timed(machine, again, kinds)[2:]}
+        return {at for at, _, _ in longest(machine, again, ticks_by(*ticks), network=network)[1]}
 
     def states(self, actor):
         """What an actor has for each word that it has something for."""

@@ -2,7 +2,7 @@
 
 import re
 
-from .answers import opened, options
+from .answers import opened, options, run
 from .documents import NUMBER
 from .one_memory import flat
 from .outcomes import Open, outcomes
@@ -33,7 +33,7 @@ def claim(words, text):
         grants = None
     elif o["mode"] == "run":
         machine = opened(program, o)
-        machine.run(o["seed"], lambda event: None)
+        run(machine, o)
         grants = machine.grants
     else:
         raise Unfit("mode")

@@ -4,7 +4,7 @@ import json
 import sys
 
 from .accounts import account
-from .answers import answer, opened, options
+from .answers import answer, opened, options, run
 from .cases import run_cases
 from .chart import Chart
 from .claims import VERDICTS, batch, claim
@@ -49,6 +49,15 @@ def leave_out(words):
     return words[:at] + words[at + 2:]
 
 
+def network_words(words):
+    """The words without those of a page's network, its latency, and its net."""
+    if words[:1] not in (["page"], ["data"]):
+        return words, 0, "uniform"
+    o = {"latency": "0", "net": "uniform"}
+    o.update(word.lstrip("-").split("=") for word in words if word.startswith("--"))
+    return [word for word in words if not word.startswith("--")], int(o["latency"]), o["net"]
+
+
 def command(words):
     """Does what the words ask for, and gives the exit code."""
     if "--without" in words:
@@ -83,15 +92,15 @@ def command(words):
         return status
     if words[:1] == ["events"]:
         o = options(words[1:])
-        opened(assemble(sys.stdin.read()), o).run(o["seed"], lambda event: print(event_line(event)))
+        run(opened(assemble(sys.stdin.read()), o), o, lambda event: print(event_line(event)))
         return 0
     if words[:1] == ["chart"]:
         o = {"first": 0, "rows": 1000, "tick-core": 1, "tick-bank": 10, "tick-mail": 5, "columns": "all",
-             "plain": "on", "words": "", "actors": "", "fit": "rows"}
+             "plain": "on", "words": "", "actors": "", "fit": "rows", "latency": 0, "net": "uniform"}
         o.update(word.lstrip("-").split("=") for word in words[1:])
         ticks = tuple(int(o["tick-" + kind]) for kind in ("core", "bank", "mail"))
         chart = Chart(sys.stdin.buffer.read(), int(o["first"]), int(o["rows"]), ticks, o["columns"] == "used", o["plain"], o["words"],
-                      o["actors"], o["fit"] == "slide")
+                      o["actors"], o["fit"] == "slide", int(o["latency"]), o["net"])
         print(chart.text(), end="")
         return 0
     if words[:1] in (["account"], ["lists"]):
@@ -107,6 +116,7 @@ def command(words):
         status, out = state(sys.stdin.buffer.read(), int((words[1:2] + ["0"])[0]))
         print("".join(line + "\n" for line in out), end="")
         return status
+    words, latency, net = network_words(words)
     if words[:1] in (["page"], ["states"], ["marks"]):
         first, most = (int(word) for word in words[1:3] + ["0", "4096"][len(words[1:3]):])
         data = sys.stdin.buffer.read()
@@ -116,12 +126,13 @@ def command(words):
         if words[0] == "states":
             print("".join("\n".join(lines) + "\n\n" for lines in states(data, first, most)), end="")
             return 0
-        status, out = page(data, "".join(words[3:4]), first, most, ticks_by(1, 10, 5))
+        status, out = page(data, "".join(words[3:4]), first, most, ticks_by(1, 10, 5), latency, net)
         print(out, end="")
         return status
     if words[:1] == ["data"]:
         first = int("".join(words[1:2]) or "0")
-        status, out = run_data(sys.stdin.buffer.read(), "", first, int(words[2]) if len(words) > 2 else None, ticks_by(1, 10, 5))
+        status, out = run_data(sys.stdin.buffer.read(), "", first, int(words[2]) if len(words) > 2 else None, ticks_by(1, 10, 5), latency,
+                               net)
         print(out, end="")
         return status
     if words[:1] == ["script"]:

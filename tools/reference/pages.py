@@ -7,6 +7,7 @@ from .machine import Machine
 from .report import outcome
 from .texts import assemble, code_lines
 from .ticks import longest
+from .time_order import Network
 
 
 def string(data):
@@ -214,21 +215,21 @@ def listed_code(program):
     return "".join(instruction_text(word) + "\n" for word in program.code)
 
 
-def page(data, name, first, most, ticks):
+def page(data, name, first, most, ticks, latency=0, net="uniform"):
     """The exit code and the text of a page's data: the run of a document, from event `first` on, with at most so many events."""
     told = read_document(data)
     if isinstance(told, str):
         return 2, "refused trace %s\n" % told
-    return 0, data_text("denovo-page 2", told, name, first, most, ticks, lambda text, program, finishes: [])
+    return 0, data_text("denovo-page 2", told, name, first, most, (ticks, latency, net), lambda text, program, finishes: [])
 
 
-def run_data(data, name, first, most, ticks):
+def run_data(data, name, first, most, ticks, latency=0, net="uniform"):
     """The same of the mode data: a page's data, and what other tools need beside them."""
     told = read_document(data)
     if isinstance(told, str):
         return 2, "refused trace %s\n" % told
     last = len(told[2]) if most is None else first + most
-    return 0, data_text("denovo-data 1", told, name, first, last - first, ticks, lambda text, program, finishes: [
+    return 0, data_text("denovo-data 1", told, name, first, last - first, (ticks, latency, net), lambda text, program, finishes: [
         ("machine_code", value_text(program.code)), ("lines", value_text([line for line, _ in code_lines(text)])),
         ("effects", value_text([effects_row(number, task, len(program.locks)) for number, phase in enumerate(program.phases)
                                 for _, task in sorted(phase.items())])),
@@ -241,9 +242,11 @@ def effects_row(phase, task, locks):
         [intervals(guarded.get(lock, set())) for lock in range(locks)] for guarded in (task.greads, task.gwrites)]
 
 
-def data_text(form, told, name, first, most, ticks, further):
-    """The data of a run in a form, with the fields that `further` gives before the first state."""
+def data_text(form, told, name, first, most, times, further):
+    """The data of a run in a form, with the fields that `further` gives before the first state. `times` has the ticks of each kind of event,
+    and the latency and the net of the messages."""
     sizes, text, events = told
+    ticks, latency, net = times
     program = assemble(text.decode("utf-8", "replace"))
 
     def drive(machine, trace):
@@ -251,7 +254,8 @@ def data_text(form, told, name, first, most, ticks, further):
             trace(event)
             machine.step(event)
     timed, finishes = Machine(program, *sizes), []
-    total, links = longest(timed, lambda trace: drive(timed, trace), ticks, finishes)
+    network = Network(timed.cores, timed.banks, latency, net)
+    total, links = longest(timed, lambda trace: drive(timed, trace), ticks, finishes, network)
     ends = [[end[0], end[1], end[3]] + end_fields(end[2]) for end in timed.ending()[0]]
     machine = Machine(program, *sizes)
     for event in events[:first]:

@@ -3,6 +3,7 @@
 Of runs with few events all chains are made too, one after another, which has to come to the same."""
 
 from .kinds import KINDS
+from .time_order import index
 
 # of so many events all chains are made, one after another, and of which runs that was done
 MOST_SEARCHED = 16
@@ -10,12 +11,13 @@ searched = []
 
 
 def slowest(behind, ticks):
-    """The greatest cost of a chain, of all chains one after another: behind[i] has the events on which event i depends."""
-    most, chains = 0, [[i] for i in range(len(behind))]
+    """The greatest cost of a chain, of all chains one after another: behind[i] has the events on which event i depends, each with the
+    latency of this step."""
+    most, chains = 0, [([i], 0) for i in range(len(behind))]
     while chains:
-        chain = chains.pop()
-        most = max(most, sum(ticks[i] for i in chain))
-        chains += [[i] + chain for i in behind[chain[0]]]
+        chain, latency = chains.pop()
+        most = max(most, sum(ticks[i] for i in chain) + latency)
+        chains += [([i] + chain, latency + step) for i, step in behind[chain[0]].items()]
     return most
 
 
@@ -25,22 +27,21 @@ def ticks_by(core, bank, mail):
             bank if kind in ("read-req", "reg-req", "write-back", "acquire", "release") else mail for kind in KINDS}
 
 
-def timing(machine, seed, ticks):
-    """The longest chain of the events of a seed's run, as the lines of the mode time."""
-    return timed(machine, lambda trace: machine.run(seed, trace), ticks)
+def timed(machine, run, ticks, network=None, finish=None):
+    """The longest chain of the events of a run, which `run` makes, as the lines of the mode time. A list that is given gets the finish of each
+    event."""
+    latencies = []
+    total, links = longest(machine, run, ticks, finish, network, latencies)
+    on_the_way = ["network %d" % sum(latencies)] if network is not None and network.latency else []
+    return ["time %d" % total, "chain %d" % len(links)] + on_the_way + ["link %d %s %d" % link for link in links]
 
 
-def timed(machine, run, ticks):
-    """The longest chain of the events of a run, which `run` makes, as the lines of the mode time."""
-    total, links = longest(machine, run, ticks)
-    return ["time %d" % total, "chain %d" % len(links)] + ["link %d %s %d" % link for link in links]
-
-
-def longest(machine, run, ticks, finish=None):
+def longest(machine, run, ticks, finish=None, network=None, latencies=None):
     """The longest chain of the events of a run: the total, and the number, kind and finish of each link. An event depends on the one
-    before it of its actor, and on its mail's sender. A list that is given gets the finish of each event."""
+    before it of its actor, and on its mail's sender, from which the mail takes the latency of the network. A list that is given gets the
+    finish of each event, and the latency of each step of the chain."""
     finish = [] if finish is None else finish
-    before, kinds, last, sender, both = [], [], {}, {}, []
+    before, kinds, last, sender, both, way = [], [], {}, {}, [], []
 
     def see(event):
         if event[0] == "handle":
@@ -50,13 +51,17 @@ def longest(machine, run, ticks, finish=None):
             actor, kind = ("core", event[1]), event[0]
         at = len(finish)
         own, sent = last.get(actor), sender.get(event[1:]) if event[0] == "handle" else None
-        behind = own
-        if sent is not None and (own is None or finish[sent] > finish[own]):
-            behind = sent
-        both.append({own, sent} - {None})
+        behind, latency, steps = own, 0, {} if own is None else {own: 0}
+        if sent is not None:
+            delay = network.delay(index(machine, event[1]), index(machine, actor)) if network else 0
+            if own is None or finish[sent] + delay > finish[own]:
+                behind, latency = sent, delay
+            steps[sent] = delay
+        both.append(steps)
         kinds.append(kind)
         before.append(behind)
-        finish.append(ticks[kind] + (finish[behind] if behind is not None else 0))
+        way.append(latency)
+        finish.append(ticks[kind] + latency + (finish[behind] if behind is not None else 0))
         last[actor] = at
         seen.append((actor, at))
 
@@ -78,6 +83,8 @@ def longest(machine, run, ticks, finish=None):
     at = finish.index(total) if finish else None
     while at is not None:
         chain.append(at)
+        if latencies is not None:
+            latencies.append(way[at])
         at = before[at]
     if len(both) <= MOST_SEARCHED:
         assert total == slowest(both, [ticks[kind] for kind in kinds])
