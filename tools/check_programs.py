@@ -80,6 +80,7 @@ PARTS = [functools.partial(shown.states_are_those_of_the_reference, example, wor
     told.heads_of_examples_say_what_is_printed,
     told.the_page_on_accounts_has_the_numbers,
     told.the_page_on_lists_has_the_numbers,
+    told.the_page_on_lists_says_what_it_leaves_out,
 ]
 if KIND == "proved":
     PARTS.append(calls.proved_programs_are_used_where_they_are_those_of_the_sources)

@@ -57,6 +57,10 @@ somewhere else to come from. It takes texts that assemble and check; it refuses 
                                             marked, or all copies of a lock's words are dropped at its Grant. That isn't the protocol, and
                                             standard error says so in its first line. `.. claim --without drop < TEXT | ./referee` finds
                                             what goes wrong
+    tools/reference.py .. --signature BITS,HASHES ..
+                                            the same with signatures of so many bits, a power of two, and one or two hashes of a word in place
+                                            of 256 and 2. That isn't the protocol either. A document has to be read with the sizes by which it
+                                            was made
     tools/reference.py text SIZE            the text that the mode work runs for the size
     tools/reference.py rows                 what a run of the small examples below has to come to, for the seeds 1 to 50
     tools/reference.py --help               this page

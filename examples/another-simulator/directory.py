@@ -1,7 +1,7 @@
 #!/usr/bin/env python3
 """A second simulator of another kind, which writes claims: caches with lines of several words, and a directory that tells the sharers.
 
-    examples/another-simulator/directory.py [--seed N] [--line WORDS] [--sets N] [--ways N] [--fuel N] [--bug NAME] < TEXT > CLAIM
+    examples/another-simulator/directory.py [--seed N] [--line WORDS] [--sets N] [--ways N] [--fuel N] [--counts] [--bug NAME] < TEXT > CLAIM
     examples/another-simulator/directory.py --list-bugs
     ./referee < CLAIM
 
@@ -10,6 +10,8 @@ a time and lets the others wait. For a store the home tells each sharer to drop 
 is Modified elsewhere is fetched from there. An evicted Modified line goes home by a write-back. Stores retire into a store buffer; a load
 of a word that is in it waits. Messages are in flight, and come in any order. How a text is read and what an instruction does is
 tools/reference.py's; the rest is here.
+
+--counts writes to standard error how many messages of each kind were sent.
 
 --bug switches one of twelve bugs on; they stand in the code where `self.bug` is asked. README.md in this folder says which texts find which.
 
@@ -37,6 +39,9 @@ BUGS = {
     "load-ahead-of-store": "a load doesn't wait for a store to its word that is in the store buffer",
     "last-dirty-line": "the answer lacks the last of the lines that are Modified at the end",
 }
+# the kinds of messages: those about words, and those by which the home knows that a core has a line, and of locks
+OF_WORDS = ("read", "own", "fetch", "fetched", "data", "invalidate", "invalidated", "write-back", "written-back")
+KINDS = OF_WORDS + ("done", "acquire", "release", "grant")
 MODIFIED, SHARED = "Modified", "Shared"
 HOME = -1
 BUFFERED = 4                                    # how many stores a store buffer has room for
@@ -67,7 +72,7 @@ class Core:
         return self.task is None or self.task.end is not None
 
     def send(self, kind, *what):
-        self.machine.flight.append((HOME, kind, self.number) + what)
+        self.machine.post((HOME, kind, self.number) + what)
 
     # ------------------------------------------------------------ what a core does by itself
 
@@ -226,7 +231,7 @@ class Home:
         self.holders, self.queues = {}, {}
 
     def send(self, core, kind, *what):
-        self.machine.flight.append((core, kind) + what)
+        self.machine.post((core, kind) + what)
 
     def receive(self, kind, core, *what):
         if kind in ("read", "own", "write-back"):
@@ -330,6 +335,7 @@ class Machine:
         self.program, self.line, self.sets, self.ways, self.fuel, self.bug = program, line, sets, ways, fuel, bug
         self.decoded = [decode(word) for word in program.code]
         self.flight = []                        # the messages in flight: (receiver, kind, ..)
+        self.sent = {}                          # how many messages of each kind were sent
         self.home = Home(self, list(program.memory))
         self.cores = [Core(self, number) for number in range(program.cores())]
         self.phase, self.clock = 0, 0
@@ -338,6 +344,10 @@ class Machine:
     def tick(self):
         self.clock += 1
         return self.clock
+
+    def post(self, message):
+        self.sent[message[1]] = self.sent.get(message[1], 0) + 1
+        self.flight.append(message)
 
     def note_load(self, core, word, value):
         self.loads[self.phase, core].append((word, value))
@@ -400,6 +410,7 @@ def arguments():
     words.add_argument("--sets", type=int, default=4, help="sets of a cache")
     words.add_argument("--ways", type=int, default=2, help="lines of a set")
     words.add_argument("--fuel", type=int, default=32768)
+    words.add_argument("--counts", action="store_true", help="write to standard error how many messages of each kind were sent")
     words.add_argument("--bug", choices=sorted(BUGS))
     words.add_argument("--list-bugs", action="store_true", help="say what each bug is")
     return words.parse_args()
@@ -422,6 +433,9 @@ def main():
     machine = Machine(program, asked.line, asked.sets, asked.ways, asked.fuel, asked.bug)
     machine.run(random.Random(asked.seed))
     sys.stdout.buffer.write(machine.claim(text))
+    if asked.counts:
+        print("messages %d" % sum(count for kind, count in machine.sent.items() if kind in OF_WORDS), file=sys.stderr)
+        print("".join("count %s %d\n" % (kind, machine.sent.get(kind, 0)) for kind in KINDS), end="", file=sys.stderr)
     return 0
 
 

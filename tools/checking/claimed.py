@@ -23,7 +23,7 @@ def counters(cores, locks):
 
 
 def texts_with_locks():
-    """Twenty texts: the examples that declare a lock, and counters."""
+    """Twenty-one texts: the examples that declare a lock, and counters."""
     found = {path.stem: path.read_bytes() for path in sorted(pathlib.Path("examples").glob("*.s")) if re.search(rb"^\.lock ", path.read_bytes(), re.M)}
     for cores, locks in ((2, 1), (2, 2), (2, 3), (3, 1), (3, 2), (4, 3), (5, 1), (5, 2), (8, 1), (8, 3), (16, 1), (16, 2)):
         found[f"{cores} cores and {locks} locks"] = counters(cores, locks)
@@ -68,7 +68,7 @@ def judges(program, document, wanted, words=()):
 
 def claims_of_runs_agree():
     texts = texts_with_locks()
-    check("twenty texts with locks", len(texts) == 20, len(texts))
+    check("twenty-one texts with locks", len(texts) == 21, len(texts))
     for name, text in texts.items():
         claims = [claim_of_run(programs("denovo")[0], seed, text) for seed in (range(1, 11) if KIND == "proved" else (1, 2))]
         for claim in claims:

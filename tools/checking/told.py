@@ -1,6 +1,7 @@
 """What the documents and the heads of examples say that commands print, against what they print and what tools/reference.py computes."""
 import pathlib
 import re
+import sys
 
 import reference
 from .counting import check, programs, run, text_of, written
@@ -68,12 +69,11 @@ def the_first_page_shows_what_is_printed():
     for line in re.findall(r"^    ((?:outcome|word|count) .*?)(?:  .*)?$", page, re.M):
         check(f"README.md: {line}", line in printed)
     check("README.md: how many lines", f"of the {len(printed)} lines" in page)
-    for row in re.findall(r"^\| `([a-z-]+)`: .*", page, re.M):
-        told = re.search(rf"^\| `{row}`: [^|]*\|(.*)\|$", page, re.M)[1]
-        document = written(reference.answer(["--mode", "trace"], text_of(row).decode())[1])
-        numbers = dict((line.split(",")[0], int(line.split(",")[2])) for line in reference.lists(document, "run")[1][1:])
+    for row, cores, told in re.findall(r"^\| `([a-z-]+)`(?: with (\d+) cores)?[^|`]*(?:`experiments/sharing`)?: [^|]*\|((?: [\d,]+ \|)+)$", page, re.M):
+        numbers = counted_beside_lists(run(["experiments/sharing/texts", row, cores]).stdout if cores else text_of(row))
         wanted = [numbers[name] for name in ("messages", "list-messages", "list-invalidations", "waits-here-alone")]
-        check(f"README.md: {row} beside lists", [int(cell.replace(",", "")) for cell in told.split("|")] == wanted, wanted)
+        check(f"README.md: {row} beside lists", [int(cell.replace(",", "")) for cell in told.strip("|").split("|")] == wanted, wanted)
+    check("README.md: rows beside lists", len(re.findall(r"^\| `[a-z-]+`.*\d \|$", page, re.M)) == 6)
 
 
 def every_command_of_the_exercises_answers():
@@ -178,3 +178,43 @@ def the_page_on_lists_has_the_numbers():
             check(f"docs/SHARERS.md: the numbers of {example}", all(counts.get(row[0]) == row[place] for row in rows), counts)
     measures = explained_measures(page)
     check("docs/SHARERS.md: what each measure counts", sorted(measures) == sorted(reference.LIST_MEASURES), set(measures) ^ set(reference.LIST_MEASURES))
+
+
+def counted_beside_lists(text, words=()):
+    """The second program's numbers of a run beside lists, and how many messages of each kind the run has."""
+    document = written(reference.answer(["--mode", "trace", *words], text.decode())[1])
+    numbers = {line.split(",")[0]: int(line.split(",")[2]) for line in reference.lists(document, "run")[1][1:]}
+    lines = reference.answer(list(words), text.decode())[1]
+    return numbers | {line.split()[1]: int(line.split()[2]) for line in lines if line.startswith("count ")}
+
+
+def messages_of_a_directory(text, line, sets):
+    """How many messages the directory machine sends that stands in examples/, with lines of so many words; its run has to agree."""
+    ran = run([sys.executable, "examples/another-simulator/directory.py", f"--line={line}", f"--sets={sets}", "--ways=4", "--counts"], text)
+    agrees = reference.judged(ran.stdout)[1] == ["agrees"]
+    return int(ran.stderr.decode().split()[1]) if agrees else None
+
+
+def the_page_on_lists_says_what_it_leaves_out():
+    """The numbers of docs/SHARERS.md on directories with lines, in bytes, and with copies that go silently."""
+    raw = pathlib.Path("docs/SHARERS.md").read_text()
+    page = " ".join(raw.split())
+    lines = [messages_of_a_directory(text_of(name), 4, 16) for name in ("many-readers", "stencil", "constants")]
+    check("docs/SHARERS.md: lines of four words", "sends %d messages for `many-readers`, %d for `stencil` and %d for `constants`" % tuple(lines) in page, lines)
+    for name in re.search(r"^\| Measure \|(.*`.*)\|$", raw, re.M)[1].replace("`", "").split("|"):
+        beside = counted_beside_lists(text_of(name.strip()))
+        more = 1 if name.strip() == "eviction-race" else 0
+        words = messages_of_a_directory(text_of(name.strip()), 1, 64)
+        check(f"docs/SHARERS.md: a directory of words sends as many for {name.strip()}", words == beside["list-messages"] + more, words)
+    small = counted_beside_lists(text_of("constants"), ["--sets", "4", "--ways", "1"])
+    silent = small["list-messages"] - 2 * small["list-put-shares"]
+    told = "lists send %d messages, of which %d are for copies that go. Without these they are %d, as here" % (small["list-messages"], 2 * small["list-put-shares"], silent)
+    check("docs/SHARERS.md: copies that go silently", told in page and (silent, 0) == (small["messages"], small["list-invalidations"]), told)
+    bytes_of = {}
+    for name, text in (("locked-counter", text_of("locked-counter")), ("reduction", run(["experiments/sharing/texts", "reduction", "16"]).stdout)):
+        count = counted_beside_lists(text)
+        locks = 8 * (count["acquire"] + count["release"] + count["grant"])
+        bytes_of[name] = (8 * count["messages"] + 4 * (count["data-reply"] + count["write-back"]) + locks + 33 * (count["release"] + count["grant"]),
+                          8 * count["list-messages"] + 4 * (count["list-replies"] + count["list-put-backs"]) + locks)
+    told = "`locked-counter` {:,} here and at most {:,} with lists; `reduction` with 16 cores {:,} and at most {:,}".format(*bytes_of["locked-counter"], *bytes_of["reduction"])
+    check("docs/SHARERS.md: bytes", told in page, told)

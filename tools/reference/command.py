@@ -16,6 +16,7 @@ from .pages import page, run_data, states
 from .readers import readers_answer
 from .report import STATUS, agree_with_flat, outcome, run_text
 from .scripts import event_line, play
+from .signatures import Size
 from .small_examples import rows
 from .state_text import state
 from .sweep import sweep
@@ -58,10 +59,24 @@ def network_words(words):
     return [word for word in words if not word.startswith("--")], int(o["latency"]), o["net"]
 
 
+def size_signatures(words):
+    """Gives all signatures the bits and hashes that the words name, says so, and gives the other words."""
+    at = words.index("--signature")
+    bits, hashes = (int(number) for number in words[at + 1].split(","))
+    if not 1 <= bits <= 65536 or bits & (bits - 1) or hashes not in (1, 2):
+        raise ValueError("--signature BITS,HASHES: a power of two up to 65536, and 1 or 2")
+    if (bits, hashes) != (Size.bits, Size.hashes):
+        print("tools/reference.py: this isn't the protocol: signatures have %d bits, with hashes %d" % (bits, hashes), file=sys.stderr, flush=True)
+    Size.bits, Size.hashes = bits, hashes
+    return words[:at] + words[at + 2:]
+
+
 def command(words):
     """Does what the words ask for, and gives the exit code."""
     if "--without" in words:
         words = leave_out(words)
+    if "--signature" in words:
+        words = size_signatures(words)
     if words[:1] == ["rows"]:
         return 0 if rows() else 1
     if words[:1] == ["cases"]:

@@ -5,6 +5,7 @@ from .isa import instruction_text
 from .kinds import KINDS
 from .machine import Machine
 from .report import outcome
+from .signatures import Size
 from .texts import assemble, code_lines
 from .ticks import longest
 from .time_order import Network
@@ -28,7 +29,7 @@ def actor_number(actor):
 
 def bits(signature):
     """A signature as its phase and the numbers of its bits."""
-    return [signature[1]] + [bit for bit in range(256) if signature[0] >> bit & 1]
+    return [signature[1]] + [bit for bit in range(Size.bits) if signature[0] >> bit & 1]
 
 
 def sent_row(to, message):

@@ -1,10 +1,18 @@
-"""Signatures: 256 bits and a phase, which say what words were written under a lock."""
+"""Signatures: bits and a phase, which say what words were written under a lock. The protocol's have 256 bits and two hashes of a word."""
 
 from .isa import MASK
 
 
+class Size:
+    """How many bits a signature has, a power of two, and how many hashes a word has in it: another size isn't the protocol's."""
+
+    bits, hashes = 256, 2
+
+
 def hashes(word):
-    return 1 << word % 256 | 1 << (word * 2654435769 & MASK) // (1 << 24)
+    """The bits of a word: of its number, and with two hashes of the first bits of a product too."""
+    first = 1 << word % Size.bits
+    return first if Size.hashes == 1 else first | 1 << ((word * 2654435769 & MASK) * Size.bits >> 32)
 
 
 def inserted(signature, word, phase):
