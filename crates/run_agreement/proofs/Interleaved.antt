@@ -14,7 +14,7 @@ use Rattle.flat_machine.specs.Grants.{is_free, grant_of}
 use Rattle.flat_machine.specs.Ending.{flat_end}
 use Rattle.flat_machine.specs.Laws.{AreCoresRising}
 use Rattle.run_agreement.specs.Worlds.{LeadsToRun, AreStopped, IsStopped, stepped, world_after_grant, with_phase}
-use Rattle.run_agreement.specs.Interleaving.{Move, acts, begins, instruction, instruction_at, phase_begun, moved, interleaved, taken_by, taken_at, taken, all_taken, IsOver, IsInterleaving}
+use Rattle.run_agreement.specs.Interleaving.{Move, acts, begins, instruction, instruction_at, phase_begun, move_made, interleaved, lock_taken_by, lock_taken_at, locks_taken, all_locks_taken, HasNoMove, IsInterleaving}
 use Rattle.run_agreement.proofs.Agreeing.{run-ends}
 use Rattle.run_agreement.proofs.Beginning.{run-opens, run-begin}
 use Rattle.run_agreement.proofs.Granting.{run-step, run-grant}
@@ -30,7 +30,7 @@ module _ (P : ProgramParts) (fuel : ℕ) (rising : AreCoresRising P) (checked : 
 
   -- an instruction that is possible
   instruction-leads : (gs : List Grant) (W V : Flat) (i : ℕ) (r : Started) (n : Option Need) → slice_get W.tasks i ≡ Some r → wish P fuel r ≡ n → LeadsToRun P fuel gs W
-      → instruction P fuel W i r n ≡ Some V → LeadsToRun P fuel (gs ++ taken_by r n) V
+      → instruction P fuel W i r n ≡ Some V → LeadsToRun P fuel (gs ++ lock_taken_by r n) V
   instruction-leads gs W V i r None there wants leads is = absurd (none-some V is)
   instruction-leads gs W V i r (Some (need.TheVariants.Acquire lock)) there wants leads is = by_free (is_free W.tasks lock.0) refl is where
     by_free : (b : Bool) → is_free W.tasks lock.0 ≡ b → (if b then Some (world_after_grant P W i r) else None) ≡ Some V → LeadsToRun P fuel (gs ++ grant_of r lock ∷ []) V
@@ -44,9 +44,9 @@ module _ (P : ProgramParts) (fuel : ℕ) (rising : AreCoresRising P) (checked : 
   instruction-leads gs W V i r (Some (need.TheVariants.End cause)) there wants leads is = step-leads gs W V i r there leads is
 
   -- a move that is possible
-  move-leads : (gs : List Grant) (W V : Flat) (m : Move) → LeadsToRun P fuel gs W → moved P fuel W m ≡ Some V → LeadsToRun P fuel (gs ++ taken P fuel W m) V
+  move-leads : (gs : List Grant) (W V : Flat) (m : Move) → LeadsToRun P fuel gs W → move_made P fuel W m ≡ Some V → LeadsToRun P fuel (gs ++ locks_taken P fuel W m) V
   move-leads gs W V (acts i) leads is = by_task (slice_get W.tasks i) refl is where
-    by_task : (o : Option Started) → slice_get W.tasks i ≡ o → instruction_at P fuel W i o ≡ Some V → LeadsToRun P fuel (gs ++ taken_at P fuel o) V
+    by_task : (o : Option Started) → slice_get W.tasks i ≡ o → instruction_at P fuel W i o ≡ Some V → LeadsToRun P fuel (gs ++ lock_taken_at P fuel o) V
     by_task None there is = absurd (none-some V is)
     by_task (Some r) there is = instruction-leads gs W V i r (wish P fuel r) there refl leads is
   move-leads gs W V begins leads is = by_phase (next_phase P W) refl is where
@@ -58,14 +58,14 @@ module _ (P : ProgramParts) (fuel : ℕ) (rising : AreCoresRising P) (checked : 
   none-leads [] V is = none-some V is
   none-leads (m ∷ ms) V is = none-leads ms V is
 
-  moves-lead : (ms : List Move) (gs : List Grant) (W V : Flat) → LeadsToRun P fuel gs W → interleaved P fuel (Some W) ms ≡ Some V → LeadsToRun P fuel (gs ++ all_taken P fuel (Some W) ms) V
+  moves-lead : (ms : List Move) (gs : List Grant) (W V : Flat) → LeadsToRun P fuel gs W → interleaved P fuel (Some W) ms ≡ Some V → LeadsToRun P fuel (gs ++ all_locks_taken P fuel (Some W) ms) V
   moves-lead [] gs W V leads is = none-more gs V (subst (LeadsToRun P fuel gs) (same_Some W V is) leads)
-  moves-lead (m ∷ ms) gs W V leads is = by_next (λ U came rest. moves-lead ms (gs ++ taken P fuel W m) U V (move-leads gs W U m leads came) rest) (moved P fuel W m) refl is where
-    by_next : ((U : Flat) → moved P fuel W m ≡ Some U → interleaved P fuel (Some U) ms ≡ Some V → LeadsToRun P fuel ((gs ++ taken P fuel W m) ++ all_taken P fuel (Some U) ms) V)
-        → (o : Option Flat) → moved P fuel W m ≡ o → interleaved P fuel o ms ≡ Some V → LeadsToRun P fuel (gs ++ (taken P fuel W m ++ all_taken P fuel o ms)) V
+  moves-lead (m ∷ ms) gs W V leads is = by_next (λ U came rest. moves-lead ms (gs ++ locks_taken P fuel W m) U V (move-leads gs W U m leads came) rest) (move_made P fuel W m) refl is where
+    by_next : ((U : Flat) → move_made P fuel W m ≡ Some U → interleaved P fuel (Some U) ms ≡ Some V → LeadsToRun P fuel ((gs ++ locks_taken P fuel W m) ++ all_locks_taken P fuel (Some U) ms) V)
+        → (o : Option Flat) → move_made P fuel W m ≡ o → interleaved P fuel o ms ≡ Some V → LeadsToRun P fuel (gs ++ (locks_taken P fuel W m ++ all_locks_taken P fuel o ms)) V
     by_next on None came is = absurd (none-leads ms V is)
     by_next on (Some U) came is =
-        subst (λ (hs : List Grant). LeadsToRun P fuel hs V) (append_assoc gs (taken P fuel W m) (all_taken P fuel (Some U) ms)) (on U came is)
+        subst (λ (hs : List Grant). LeadsToRun P fuel hs V) (append_assoc gs (locks_taken P fuel W m) (all_locks_taken P fuel (Some U) ms)) (on U came is)
 
   -- where no move is possible all tasks are stopped, and no phase begins
   stopped-by : (W : Flat) (i : ℕ) (r : Started) (n : Option Need) → instruction P fuel W i r n ≡ None → IsStopped W.tasks n
@@ -80,10 +80,10 @@ module _ (P : ProgramParts) (fuel : ℕ) (rising : AreCoresRising P) (checked : 
   stopped-by W i r (Some (need.TheVariants.Release lock)) over = absurd (none-some (stepped P fuel W i r) (sym over))
   stopped-by W i r (Some (need.TheVariants.End cause)) over = absurd (none-some (stepped P fuel W i r) (sym over))
 
-  all-stopped : (W : Flat) → IsOver P fuel W → AreStopped P fuel W
+  all-stopped : (W : Flat) → HasNoMove P fuel W → AreStopped P fuel W
   all-stopped W over i r there = stopped-by W i r (wish P fuel r) (ap (instruction_at P fuel W i) (sym there) ∙ over (acts i))
 
-  no-phase : (W : Flat) → IsOver P fuel W → next_phase P W ≡ None
+  no-phase : (W : Flat) → HasNoMove P fuel W → next_phase P W ≡ None
   no-phase W over = by_phase (next_phase P W) refl (over begins) where
     by_phase : (o : Option Phase) → next_phase P W ≡ o → phase_begun W o ≡ None → next_phase P W ≡ None
     by_phase None next is = next
@@ -91,6 +91,6 @@ module _ (P : ProgramParts) (fuel : ℕ) (rising : AreCoresRising P) (checked : 
 
   pub interleaving-ends : (gs : List Grant) (e : FlatEnd) → IsInterleaving P fuel gs e → flat_end P fuel gs ≡ Some e
   interleaving-ends gs e h =
-      let leads : LeadsToRun P fuel (all_taken P fuel (Some (initial P)) h.moves) h.last = moves-lead h.moves [] (initial P) h.last (run-opens P fuel) h.leads in
-      ap (flat_end P fuel) (sym h.locks) ∙ run-ends P fuel (all_taken P fuel (Some (initial P)) h.moves) h.last leads (all-stopped h.last h.over) (no-phase h.last h.over)
+      let leads : LeadsToRun P fuel (all_locks_taken P fuel (Some (initial P)) h.moves) h.last = moves-lead h.moves [] (initial P) h.last (run-opens P fuel) h.leads in
+      ap (flat_end P fuel) (sym h.locks) ∙ run-ends P fuel (all_locks_taken P fuel (Some (initial P)) h.moves) h.last leads (all-stopped h.last h.over) (no-phase h.last h.over)
       ∙ ap (λ (x : FlatEnd). Some x) h.shows

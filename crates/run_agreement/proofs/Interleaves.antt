@@ -23,7 +23,7 @@ use Rattle.flat_machine.proofs.CauseLemmas.{IsResting, HasSettled, run-resting}
 use Rattle.flat_machine.proofs.LegalLaws.{Takes, takes}
 use Rattle.flat_machine.proofs.SettleLaws.{settled-kept, settled-last}
 use Rattle.run_agreement.specs.Worlds.{stepped, past_acquire, world_after_grant, with_phase}
-use Rattle.run_agreement.specs.Interleaving.{Move, acts, begins, instruction, instruction_at, phase_begun, moved, moved_if, interleaved, taken_by, taken_at, taken, taken_if, all_taken, IsOver, IsInterleaving}
+use Rattle.run_agreement.specs.Interleaving.{Move, acts, begins, instruction, instruction_at, phase_begun, move_made, move_made_if, interleaved, lock_taken_by, lock_taken_at, locks_taken, locks_taken_if, all_locks_taken, HasNoMove, IsInterleaving}
 
 module _ (P : ProgramParts) (fuel : ℕ) where
   -- ---- moves that lead from one state to another
@@ -31,23 +31,23 @@ module _ (P : ProgramParts) (fuel : ℕ) where
   record Reaches (W : Flat) (gs : List Grant) (V : Flat) : Type 0 where
     pub moves : List Move
     pub leads : interleaved P fuel (Some W) moves ≡ Some V
-    pub locks : all_taken P fuel (Some W) moves ≡ gs
+    pub locks : all_locks_taken P fuel (Some W) moves ≡ gs
 
   stays : (W : Flat) → Reaches W [] W
   stays W = record { moves = []; leads = refl; locks = refl }
 
-  one : (W V : Flat) (m : Move) (gs : List Grant) → moved P fuel W m ≡ Some V → taken P fuel W m ≡ gs → Reaches W gs V
-  one W V m gs came took = record { moves = m ∷ []; leads = came; locks = append-nil (taken P fuel W m) ∙ took }
+  one : (W V : Flat) (m : Move) (gs : List Grant) → move_made P fuel W m ≡ Some V → locks_taken P fuel W m ≡ gs → Reaches W gs V
+  one W V m gs came took = record { moves = m ∷ []; leads = came; locks = append-nil (locks_taken P fuel W m) ∙ took }
 
   leads-on : (o : Option Flat) (ms ns : List Move) → interleaved P fuel o (ms ++ ns) ≡ interleaved P fuel (interleaved P fuel o ms) ns
   leads-on o [] ns = refl
-  leads-on o (m ∷ ms) ns = leads-on (moved_if P fuel o m) ms ns
+  leads-on o (m ∷ ms) ns = leads-on (move_made_if P fuel o m) ms ns
 
-  takes-on : (o : Option Flat) (ms ns : List Move) → all_taken P fuel o (ms ++ ns) ≡ all_taken P fuel o ms ++ all_taken P fuel (interleaved P fuel o ms) ns
+  takes-on : (o : Option Flat) (ms ns : List Move) → all_locks_taken P fuel o (ms ++ ns) ≡ all_locks_taken P fuel o ms ++ all_locks_taken P fuel (interleaved P fuel o ms) ns
   takes-on o [] ns = refl
   takes-on o (m ∷ ms) ns =
-      ap (λ (x : List Grant). taken_if P fuel o m ++ x) (takes-on (moved_if P fuel o m) ms ns)
-      ∙ sym (append_assoc (taken_if P fuel o m) (all_taken P fuel (moved_if P fuel o m) ms) (all_taken P fuel (interleaved P fuel (moved_if P fuel o m) ms) ns))
+      ap (λ (x : List Grant). locks_taken_if P fuel o m ++ x) (takes-on (move_made_if P fuel o m) ms ns)
+      ∙ sym (append_assoc (locks_taken_if P fuel o m) (all_locks_taken P fuel (move_made_if P fuel o m) ms) (all_locks_taken P fuel (interleaved P fuel (move_made_if P fuel o m) ms) ns))
 
   on : (W V U : Flat) (gs hs : List Grant) → Reaches W gs V → Reaches V hs U → Reaches W (gs ++ hs) U
   on W V U gs hs a b =
@@ -55,8 +55,8 @@ module _ (P : ProgramParts) (fuel : ℕ) where
         moves = a.moves ++ b.moves;
         leads = leads-on (Some W) a.moves b.moves ∙ ap (λ (o : Option Flat). interleaved P fuel o b.moves) a.leads ∙ b.leads;
         locks =
-            takes-on (Some W) a.moves b.moves ∙ ap (λ (x : List Grant). x ++ all_taken P fuel (interleaved P fuel (Some W) a.moves) b.moves) a.locks
-            ∙ ap (λ (o : Option Flat). gs ++ all_taken P fuel o b.moves) a.leads ∙ ap (λ (x : List Grant). gs ++ x) b.locks;
+            takes-on (Some W) a.moves b.moves ∙ ap (λ (x : List Grant). x ++ all_locks_taken P fuel (interleaved P fuel (Some W) a.moves) b.moves) a.locks
+            ∙ ap (λ (o : Option Flat). gs ++ all_locks_taken P fuel o b.moves) a.leads ∙ ap (λ (x : List Grant). gs ++ x) b.locks;
       }
 
   becomes : (W V U : Flat) (gs : List Grant) → V ≡ U → Reaches W gs V → Reaches W gs U
@@ -78,13 +78,13 @@ module _ (P : ProgramParts) (fuel : ℕ) where
   twice W i s t = ap (λ (ts : List Started). record W { tasks = ts; memory = t.memory }) (set-set W.tasks i s.task t.task)
 
   -- one instruction that is no acquire
-  acted : (W : Flat) (i : ℕ) (r : Started) (n : Need) → slice_get W.tasks i ≡ Some r → wish P fuel r ≡ Some n → instruction P fuel W i r (Some n) ≡ Some (stepped P fuel W i r) → taken_by r (Some n) ≡ []
+  acted : (W : Flat) (i : ℕ) (r : Started) (n : Need) → slice_get W.tasks i ≡ Some r → wish P fuel r ≡ Some n → instruction P fuel W i r (Some n) ≡ Some (stepped P fuel W i r) → lock_taken_by r (Some n) ≡ []
       → Reaches W [] (with_task W i (step_by P (at_memory r W.memory) (Some n)))
   acted W i r n there wants possible takes_none =
       becomes W (stepped P fuel W i r) (with_task W i (step_by P (at_memory r W.memory) (Some n))) [] (ap (λ (o : Option Need). with_task W i (step_by P (at_memory r W.memory) o)) wants)
       (one W (stepped P fuel W i r) (acts i) []
       (ap (instruction_at P fuel W i) there ∙ ap (instruction P fuel W i r) wants ∙ possible)
-      (ap (taken_at P fuel) there ∙ ap (taken_by r) wants ∙ takes_none))
+      (ap (lock_taken_at P fuel) there ∙ ap (lock_taken_by r) wants ∙ takes_none))
 
   -- or none, where the task has ended or wants a lock
   step-by : (W : Flat) (i : ℕ) (r : Started) (n : Option Need) → slice_get W.tasks i ≡ Some r → wish P fuel r ≡ n → Reaches W [] (with_task W i (step_by P (at_memory r W.memory) n))
@@ -175,9 +175,9 @@ module _ (P : ProgramParts) (fuel : ℕ) where
     by_task i r there t is =
         let W : Flat = world_after_grant P F i r in
         let next : Flat = with_task F i (go_on P fuel r F.memory) in
-        let took : moved P fuel F (acts i) ≡ Some W =
+        let took : move_made P fuel F (acts i) ≡ Some W =
         ap (instruction_at P fuel F i) there ∙ ap (instruction P fuel F i r) t.waits ∙ ap (λ (b : Bool). if b then Some W else None) t.free in
-        let lock : taken P fuel F (acts i) ≡ g ∷ [] = ap (taken_at P fuel) there ∙ ap (taken_by r) t.waits ∙ ap (λ (x : Grant). x ∷ []) (its-grant F.tasks g r t) in
+        let lock : locks_taken P fuel F (acts i) ≡ g ∷ [] = ap (lock_taken_at P fuel) there ∙ ap (lock_taken_by r) t.waits ∙ ap (λ (x : Grant). x ∷ []) (its-grant F.tasks g r t) in
         let run : Reaches W [] (with_task W i (segment P fuel (at_memory (past_acquire P r) F.memory))) = segment-reached W i (past_acquire P r) (placed F i r (at_memory (past_acquire P r) F.memory) there) in
         let same : with_task W i (segment P fuel (at_memory (past_acquire P r) F.memory)) ≡ next = twice F i (at_memory (past_acquire P r) F.memory) (go_on P fuel r F.memory) in
         let here : settled P fuel next ≡ G = ap (λ (o : Option Started). settled P fuel (resumed P fuel F i o)) (sym there) ∙ is in
@@ -261,7 +261,7 @@ module _ (P : ProgramParts) (fuel : ℕ) where
     by_first None whole = refl
     by_first (Some g) whole = absurd (cc)
 
-  is-over : (gs : List Grant) (F : Flat) → so_far P fuel gs ≡ Some F → grants_are_whole P fuel F ≡ true → IsOver P fuel F
+  is-over : (gs : List Grant) (F : Flat) → so_far P fuel gs ≡ Some F → grants_are_whole P fuel F ≡ true → HasNoMove P fuel F
   is-over gs F is whole (acts i) = by_task (slice_get F.tasks i) refl where
     resting : IsResting P fuel F
     resting = run-resting P fuel gs F is

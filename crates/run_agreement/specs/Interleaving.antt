@@ -35,50 +35,50 @@ phase_begun W None = None
 phase_begun W (Some p) = Some (with_phase W p)
 
 -- the state after a move; None if the move isn't possible
-abbrev pub moved : ProgramParts → ℕ → Flat → Move → Option Flat
-moved P fuel W (acts i) = instruction_at P fuel W i (slice_get W.tasks i)
-moved P fuel W begins = phase_begun W (next_phase P W)
+abbrev pub move_made : ProgramParts → ℕ → Flat → Move → Option Flat
+move_made P fuel W (acts i) = instruction_at P fuel W i (slice_get W.tasks i)
+move_made P fuel W begins = phase_begun W (next_phase P W)
 
-abbrev pub moved_if : ProgramParts → ℕ → Option Flat → Move → Option Flat
-moved_if P fuel None m = None
-moved_if P fuel (Some W) m = moved P fuel W m
+abbrev pub move_made_if : ProgramParts → ℕ → Option Flat → Move → Option Flat
+move_made_if P fuel None m = None
+move_made_if P fuel (Some W) m = move_made P fuel W m
 
 -- the state after several moves, as long as each is possible
 abbrev pub interleaved : ProgramParts → ℕ → Option Flat → List Move → Option Flat
 interleaved P fuel o [] = o
-interleaved P fuel o (m ∷ ms) = interleaved P fuel (moved_if P fuel o m) ms
+interleaved P fuel o (m ∷ ms) = interleaved P fuel (move_made_if P fuel o m) ms
 
 -- the lock that a move takes, if it takes one
-abbrev pub taken_by : Started → Option Need → List Grant
-taken_by r (Some (Acquire lock)) = grant_of r lock ∷ []
-taken_by r other = []
+abbrev pub lock_taken_by : Started → Option Need → List Grant
+lock_taken_by r (Some (Acquire lock)) = grant_of r lock ∷ []
+lock_taken_by r other = []
 
-abbrev pub taken_at : ProgramParts → ℕ → Option Started → List Grant
-taken_at P fuel None = []
-taken_at P fuel (Some r) = taken_by r (wish P fuel r)
+abbrev pub lock_taken_at : ProgramParts → ℕ → Option Started → List Grant
+lock_taken_at P fuel None = []
+lock_taken_at P fuel (Some r) = lock_taken_by r (wish P fuel r)
 
-abbrev pub taken : ProgramParts → ℕ → Flat → Move → List Grant
-taken P fuel W (acts i) = taken_at P fuel (slice_get W.tasks i)
-taken P fuel W begins = []
+abbrev pub locks_taken : ProgramParts → ℕ → Flat → Move → List Grant
+locks_taken P fuel W (acts i) = lock_taken_at P fuel (slice_get W.tasks i)
+locks_taken P fuel W begins = []
 
-abbrev pub taken_if : ProgramParts → ℕ → Option Flat → Move → List Grant
-taken_if P fuel None m = []
-taken_if P fuel (Some W) m = taken P fuel W m
+abbrev pub locks_taken_if : ProgramParts → ℕ → Option Flat → Move → List Grant
+locks_taken_if P fuel None m = []
+locks_taken_if P fuel (Some W) m = locks_taken P fuel W m
 
 -- the locks that several moves take, in their order
-abbrev pub all_taken : ProgramParts → ℕ → Option Flat → List Move → List Grant
-all_taken P fuel o [] = []
-all_taken P fuel o (m ∷ ms) = taken_if P fuel o m ++ all_taken P fuel (moved_if P fuel o m) ms
+abbrev pub all_locks_taken : ProgramParts → ℕ → Option Flat → List Move → List Grant
+all_locks_taken P fuel o [] = []
+all_locks_taken P fuel o (m ∷ ms) = locks_taken_if P fuel o m ++ all_locks_taken P fuel (move_made_if P fuel o m) ms
 
 -- no move is possible
-abbrev pub IsOver : ProgramParts → ℕ → Flat → Type 0
-IsOver P fuel W = (m : Move) → moved P fuel W m ≡ None
+abbrev pub HasNoMove : ProgramParts → ℕ → Flat → Type 0
+HasNoMove P fuel W = (m : Move) → move_made P fuel W m ≡ None
 
 -- some moves from the start take these locks in this order, and lead to a state in which no move is possible, and which shows this end
 pub record IsInterleaving (P : ProgramParts) (fuel : ℕ) (gs : List Grant) (end' : FlatEnd) : Type 0 where
   pub moves : List Move
   pub last : Flat
   pub leads : interleaved P fuel (Some (initial P)) moves ≡ Some last
-  pub over : IsOver P fuel last
-  pub locks : all_taken P fuel (Some (initial P)) moves ≡ gs
+  pub over : HasNoMove P fuel last
+  pub locks : all_locks_taken P fuel (Some (initial P)) moves ≡ gs
   pub shows : flat_end_of P fuel last ≡ end'
