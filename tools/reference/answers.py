@@ -14,7 +14,7 @@ from .work import work_text
 MOST_LATENCY = 1000000
 
 
-class Refused(Exception):
+class Refused(Unfit):
     """The program refuses these values of the options."""
 
 
