@@ -13,7 +13,7 @@ MOST = {
     "BASELINE": 2000,
     "README.md": 1450, "CONTRIBUTING.md": 800, "crates/TESTS.md": 650, "crates/worked_rows/data/README.md": 1150,
 }
-MOST_OF_DOCS = 41500
+MOST_OF_DOCS = 44000
 MOST_OF_A_CRATE = 400
 MOST_OF_ALL_CRATES = 15000
 
