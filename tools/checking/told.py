@@ -188,33 +188,51 @@ def counted_beside_lists(text, words=()):
     return numbers | {line.split()[1]: int(line.split()[2]) for line in lines if line.startswith("count ")}
 
 
-def messages_of_a_directory(text, line, sets):
-    """How many messages the directory machine sends that stands in examples/, with lines of so many words; its run has to agree."""
-    ran = run([sys.executable, "examples/another-simulator/directory.py", f"--line={line}", f"--sets={sets}", "--ways=4", "--counts"], text)
-    agrees = reference.judged(ran.stdout)[1] == ["agrees"]
-    return int(ran.stderr.decode().split()[1]) if agrees else None
+def messages_of_the_other_directory(text):
+    """How many messages the directory machine of examples/ sends with lines of one word; its run has to agree."""
+    ran = run([sys.executable, "examples/another-simulator/directory.py", "--line=1", "--sets=64", "--ways=4", "--counts"], text)
+    return int(ran.stderr.decode().split()[1]) if reference.judged(ran.stdout)[1] == ["agrees"] else None
+
+
+LISTS_RULES = ("--line=1", "--states=msi", "--shared=told", "--stores=wait")
+NOT_OF_WORDS = ("acquire", "release", "grant", "arrived", "go", "halt")
+
+
+def of_a_directory(text, *words):
+    """The messages about words, the bytes and the ticks of a run of baseline/directory.py."""
+    lines = [line.split() for line in run([sys.executable, "baseline/directory.py", "--latency=20", "--form=counts", *words], text).stdout.decode().splitlines()]
+    counts = [(line[1], int(line[2]), int(line[4])) for line in lines if line[0] == "count"]
+    return sum(count for kind, count, _ in counts if kind not in NOT_OF_WORDS), sum(size for _, _, size in counts), int(lines[0][1])
+
+
+def bytes_of_a_run(text):
+    """What the messages of the run with seed 1 take: 8 bytes each, 4 more for a word's value, 33 more for a signature and its phase."""
+    counts = {line.split()[1]: int(line.split()[2]) for line in reference.answer([], text.decode())[1] if line.startswith("count ")}
+    messages = sum(count for kind, count in counts.items() if kind not in ("events", "instr", "evict", "arrive"))
+    return 8 * messages + 4 * (counts["data-reply"] + counts["write-back"]) + 33 * (counts["release"] + counts["grant"])
 
 
 def the_page_on_lists_says_what_it_leaves_out():
-    """The numbers of docs/SHARERS.md on directories with lines, in bytes, and with copies that go silently."""
-    raw = pathlib.Path("docs/SHARERS.md").read_text()
-    page = " ".join(raw.split())
-    lines = [messages_of_a_directory(text_of(name), 4, 16) for name in ("many-readers", "stencil", "constants")]
-    check("docs/SHARERS.md: lines of four words", "sends %d messages for `many-readers`, %d for `stencil` and %d for `constants`" % tuple(lines) in page, lines)
-    for name in re.search(r"^\| Measure \|(.*`.*)\|$", raw, re.M)[1].replace("`", "").split("|"):
-        beside = counted_beside_lists(text_of(name.strip()))
-        more = 1 if name.strip() == "eviction-race" else 0
-        words = messages_of_a_directory(text_of(name.strip()), 1, 64)
-        check(f"docs/SHARERS.md: a directory of words sends as many for {name.strip()}", words == beside["list-messages"] + more, words)
+    """The numbers of docs/SHARERS.md on directories with lines, with the state Exclusive, in ticks and bytes, and with copies that go silently."""
+    raw, pattern = pathlib.Path("docs/SHARERS.md").read_text(), lambda *words: run(["experiments/sharing/texts", *words]).stdout
+    page, ticks = " ".join(raw.split()), ["--mode", "time", "--order", "time", "--latency", "20"]
+    lines = [of_a_directory(text_of(name))[0] for name in ("many-readers", "stencil", "constants")]
+    said = ["sends %d messages for `many-readers`, %d for `stencil` and %d for `constants`" % tuple(lines),
+            "MESI with single words sends %d messages" % of_a_directory(pattern("private", "8"), "--line=1")[0],
+            "%d with lines of four" % of_a_directory(text_of("neighbours"))[0]]
+    here = next(line for line in reference.answer(ticks, text_of("stencil").decode())[1] if line.startswith("time "))
+    waits = [of_a_directory(text_of("stencil"), *words)[2] for words in (LISTS_RULES, ["--line=1"])]
+    said.append("{:,} ticks with stores that wait, {:,} with MESI and stores that go on, {:,} here".format(*waits, int(here.split()[1])))
+    texts = text_of("locked-counter"), pattern("reduction", "16")
+    sizes = [size for text in texts for size in (bytes_of_a_run(text), of_a_directory(text, *LISTS_RULES, *(["--banks=16", "--sets=256"] if text is texts[1] else []))[1])]
+    said.append("`locked-counter` has {:,} bytes here and {:,} with lists; `reduction` with 16 cores {:,} and {:,}".format(*sizes))
     small = counted_beside_lists(text_of("constants"), ["--sets", "4", "--ways", "1"])
     silent = small["list-messages"] - 2 * small["list-put-shares"]
-    told = "lists send %d messages, of which %d are for copies that go. Without these they are %d, as here" % (small["list-messages"], 2 * small["list-put-shares"], silent)
-    check("docs/SHARERS.md: copies that go silently", told in page and (silent, 0) == (small["messages"], small["list-invalidations"]), told)
-    bytes_of = {}
-    for name, text in (("locked-counter", text_of("locked-counter")), ("reduction", run(["experiments/sharing/texts", "reduction", "16"]).stdout)):
-        count = counted_beside_lists(text)
-        locks = 8 * (count["acquire"] + count["release"] + count["grant"])
-        bytes_of[name] = (8 * count["messages"] + 4 * (count["data-reply"] + count["write-back"]) + locks + 33 * (count["release"] + count["grant"]),
-                          8 * count["list-messages"] + 4 * (count["list-replies"] + count["list-put-backs"]) + locks)
-    told = "`locked-counter` {:,} here and at most {:,} with lists; `reduction` with 16 cores {:,} and at most {:,}".format(*bytes_of["locked-counter"], *bytes_of["reduction"])
-    check("docs/SHARERS.md: bytes", told in page, told)
+    said.append("lists send %d messages, of which %d are for copies that go. Without these they are %d, as here" % (small["list-messages"], 2 * small["list-put-shares"], silent))
+    check("docs/SHARERS.md: copies that go silently", (silent, 0) == (small["messages"], small["list-invalidations"]), silent)
+    for sentence in said:
+        check(f"docs/SHARERS.md: {sentence}", sentence in page)
+    for name in re.search(r"^\| Measure \|(.*`.*)\|$", raw, re.M)[1].replace("`", "").split("|"):
+        wanted = counted_beside_lists(text_of(name.strip()))["list-messages"] + (name.strip() == "eviction-race")
+        sent = messages_of_the_other_directory(text_of(name.strip()))
+        check(f"docs/SHARERS.md: a directory of words sends as many for {name.strip()}", sent == wanted, sent)
