@@ -17,6 +17,8 @@ somewhere else to come from. It takes texts that assemble and check; it refuses 
                                             report and a table
     tools/reference.py lists [run|phase|core|region [csv|text]] < DOCUMENT
                                             the same of the run beside lists of sharers
+    tools/reference.py traffic [run|phase|core|region [csv|text]] < DOCUMENT
+                                            the same of the run's messages by their kinds, and of their bytes
     tools/reference.py readers [10|16] < DOCUMENT
                                             the answer of a document's run for readers, with numbers of this base
     tools/reference.py state [N] < DOCUMENT the state before event N of a document, from 0, and which events may come there, in the lines

@@ -8,7 +8,7 @@ from .answers import answer, opened, options, run
 from .cases import run_cases
 from .chart import Chart
 from .claims import VERDICTS, batch, claim
-from .lists import lists
+from .lists import lists, traffic
 from .machine import LEFT_OUT, Machine
 from .marks import marks
 from .outcomes import against, outcomes_text
@@ -118,9 +118,9 @@ def command(words):
                       o["actors"], o["fit"] == "slide", int(o["latency"]), o["net"])
         print(chart.text(), end="")
         return 0
-    if words[:1] in (["account"], ["lists"]):
+    if words[:1] in (["account"], ["lists"], ["traffic"]):
         by, form = words[1:3] + ["run", "csv"][len(words[1:3]):]
-        status, out = (account if words[0] == "account" else lists)(sys.stdin.buffer.read(), by, form)
+        status, out = {"account": account, "lists": lists, "traffic": traffic}[words[0]](sys.stdin.buffer.read(), by, form)
         print("".join(line + "\n" for line in out), end="")
         return status
     if words[:1] == ["readers"]:
