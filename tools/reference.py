@@ -72,7 +72,8 @@ It exits with the program's exit code, 1 where cases or rows differ, and 9 where
 import sys
 
 sys.dont_write_bytecode = True
-from reference.command import main  # noqa: E402: the folder beside this file has the modules
+from ending import end  # noqa: E402: the folder of this file has the modules
+from reference.command import main  # noqa: E402
 
 if __name__ == "__main__":
-    sys.exit(main(__doc__))
+    sys.exit(end("tools/reference.py", lambda: main(__doc__)))

@@ -36,6 +36,8 @@ def main(page_of_help):
     try:
         return command(words)
     except UNFIT as why:
+        if isinstance(why, OSError) and why.filename is None:
+            raise  # standard output failed
         print("tools/reference.py can't take this: %s: %s" % (type(why).__name__, why), file=sys.stderr)
         print("It refuses no text properly: ./denovo --mode check says what is wrong with one. --help says what it can do.", file=sys.stderr)
         return 9
