@@ -19,7 +19,8 @@ use Rattle.registration_protocol.specs.declared.node.NodeWait.TheVariants as wai
 use Rattle.registration_protocol.specs.Node.{NodeParts, Setting}
 use Rattle.machine_rules.specs.State.{State}
 use Rattle.machine_rules.specs.Next.{next}
-use Rattle.machine_rules.specs.Accesses.{Access, access_in}
+use Rattle.machine_rules.specs.Actions.{Access}
+use Rattle.machine_rules.specs.Accesses.{access_in}
 use Rattle.run_account.specs.declared.item.Item.{Item}
 use Rattle.run_account.specs.declared.item.Grouping.{Grouping}
 use Rattle.run_account.specs.declared.measure.Measure.{Measure}
