@@ -40,7 +40,7 @@ use Rattle.run_account.specs.Lists.{SharerLists, no_lists, share_of}
 use Rattle.run_account.specs.Counts.{asks, tells, puts, access_items}
 use Rattle.run_account.specs.Runs.{counted_in, served, served_items, node_item, served_mail_items, kind_measure, carried, carried_items, carried_mail_items, value_items, items_of, event_items, next_lists, listed_from, listed_of_run, number_of_both, nothing_listed, count_of_run, is_about_word}
 use Rattle.run_account.specs.Tallies.{capped, tally_of, Tallies}
-use Rattle.run_account.specs.Traffic.{bytes_of, bytes_row, numbers_of, row_number, is_between, kinds_bytes, bytes_handled}
+use Rattle.run_account.specs.Traffic.{bytes_of_kind, bytes_row, sum_of_measures, row_number, is_kind_from, kinds_bytes, bytes_handled}
 use Rattle.run_account.specs.declared.traffic_row.TrafficRow.TheVariants as row
 use Rattle.run_account.proofs.ListWhole.{number-of-run}
 use Rattle.run_account.proofs.Mails.{measured-weight, zero_weight, zero-is, messages-are-mails}
@@ -293,14 +293,14 @@ messages-of-kind C events k m its ready run =
 -- ---- bytes
 
 -- the sums of two tests
-bytes-cons : (test : EventKind → Bool) (k : EventKind) (ks : List EventKind) → kinds_bytes test (k ∷ ks) ≡ cond (test k) (bytes_of k) 0 + kinds_bytes test ks
-bytes-cons test k ks = sum_by-cons (λ (n : ℕ). n) (cond (test k) (bytes_of k) 0) (map (λ (other : EventKind). cond (test other) (bytes_of other) 0) ks)
+bytes-cons : (test : EventKind → Bool) (k : EventKind) (ks : List EventKind) → kinds_bytes test (k ∷ ks) ≡ cond (test k) (bytes_of_kind k) 0 + kinds_bytes test ks
+bytes-cons test k ks = sum_by-cons (λ (n : ℕ). n) (cond (test k) (bytes_of_kind k) 0) (map (λ (other : EventKind). cond (test other) (bytes_of_kind other) 0) ks)
 
 count-more : (test : EventKind → Bool) (k : EventKind) (ks : List EventKind) → count_by test (k ∷ ks) ≡ cond (test k) 1 0 + count_by test ks
 count-more test k ks = sum_by-cons (λ (other : EventKind). cond (test other) 1 0) k ks
 
 -- each kind has the bytes of its header, its value and its signature
-word-bytes-one : (k : EventKind) → cond (is_between 3 10 k) (bytes_of k) 0 ≡ 8 * cond (is_about_word k) 1 0 + 4 * (cond (is_kind kind.TheVariants.DataReply k) 1 0 + cond (is_kind kind.TheVariants.WriteBack k) 1 0)
+word-bytes-one : (k : EventKind) → cond (is_kind_from 3 10 k) (bytes_of_kind k) 0 ≡ 8 * cond (is_about_word k) 1 0 + 4 * (cond (is_kind kind.TheVariants.DataReply k) 1 0 + cond (is_kind kind.TheVariants.WriteBack k) 1 0)
 word-bytes-one kind.TheVariants.Instr = refl
 word-bytes-one kind.TheVariants.Evict = refl
 word-bytes-one kind.TheVariants.Arrive = refl
@@ -319,7 +319,7 @@ word-bytes-one kind.TheVariants.Arrived = refl
 word-bytes-one kind.TheVariants.Go = refl
 word-bytes-one kind.TheVariants.Halt = refl
 
-lock-bytes-one : (k : EventKind) → cond (is_between 11 13 k) (bytes_of k) 0
+lock-bytes-one : (k : EventKind) → cond (is_kind_from 11 13 k) (bytes_of_kind k) 0
     ≡ 8 * (cond (is_kind kind.TheVariants.Acquire k) 1 0 + cond (is_kind kind.TheVariants.Release k) 1 0 + cond (is_kind kind.TheVariants.Grant k) 1 0)
     + 33 * (cond (is_kind kind.TheVariants.Release k) 1 0 + cond (is_kind kind.TheVariants.Grant k) 1 0)
 lock-bytes-one kind.TheVariants.Instr = refl
@@ -340,7 +340,7 @@ lock-bytes-one kind.TheVariants.Arrived = refl
 lock-bytes-one kind.TheVariants.Go = refl
 lock-bytes-one kind.TheVariants.Halt = refl
 
-barrier-bytes-one : (k : EventKind) → cond (is_between 14 16 k) (bytes_of k) 0
+barrier-bytes-one : (k : EventKind) → cond (is_kind_from 14 16 k) (bytes_of_kind k) 0
     ≡ 8 * (cond (is_kind kind.TheVariants.Arrived k) 1 0 + cond (is_kind kind.TheVariants.Go k) 1 0 + cond (is_kind kind.TheVariants.Halt k) 1 0)
 barrier-bytes-one kind.TheVariants.Instr = refl
 barrier-bytes-one kind.TheVariants.Evict = refl
@@ -360,13 +360,13 @@ barrier-bytes-one kind.TheVariants.Arrived = refl
 barrier-bytes-one kind.TheVariants.Go = refl
 barrier-bytes-one kind.TheVariants.Halt = refl
 
-word-bytes : (ks : List EventKind) → kinds_bytes (is_between 3 10) ks
+word-bytes : (ks : List EventKind) → kinds_bytes (is_kind_from 3 10) ks
     ≡ 8 * count_by is_about_word ks + 4 * (count_by (is_kind kind.TheVariants.DataReply) ks + count_by (is_kind kind.TheVariants.WriteBack) ks)
 word-bytes [] = refl
 word-bytes (k ∷ ks) =
     omega (
       arith,
-      bytes-cons (is_between 3 10) k ks,
+      bytes-cons (is_kind_from 3 10) k ks,
       word-bytes-one k,
       word-bytes ks,
       count-more is_about_word k ks,
@@ -374,14 +374,14 @@ word-bytes (k ∷ ks) =
       count-more (is_kind kind.TheVariants.WriteBack) k ks,
     )
 
-lock-bytes : (ks : List EventKind) → kinds_bytes (is_between 11 13) ks
+lock-bytes : (ks : List EventKind) → kinds_bytes (is_kind_from 11 13) ks
     ≡ 8 * (count_by (is_kind kind.TheVariants.Acquire) ks + count_by (is_kind kind.TheVariants.Release) ks + count_by (is_kind kind.TheVariants.Grant) ks)
     + 33 * (count_by (is_kind kind.TheVariants.Release) ks + count_by (is_kind kind.TheVariants.Grant) ks)
 lock-bytes [] = refl
 lock-bytes (k ∷ ks) =
     omega (
       arith,
-      bytes-cons (is_between 11 13) k ks,
+      bytes-cons (is_kind_from 11 13) k ks,
       lock-bytes-one k,
       lock-bytes ks,
       count-more (is_kind kind.TheVariants.Acquire) k ks,
@@ -389,13 +389,13 @@ lock-bytes (k ∷ ks) =
       count-more (is_kind kind.TheVariants.Grant) k ks,
     )
 
-barrier-bytes : (ks : List EventKind) → kinds_bytes (is_between 14 16) ks
+barrier-bytes : (ks : List EventKind) → kinds_bytes (is_kind_from 14 16) ks
     ≡ 8 * (count_by (is_kind kind.TheVariants.Arrived) ks + count_by (is_kind kind.TheVariants.Go) ks + count_by (is_kind kind.TheVariants.Halt) ks)
 barrier-bytes [] = refl
 barrier-bytes (k ∷ ks) =
     omega (
       arith,
-      bytes-cons (is_between 14 16) k ks,
+      bytes-cons (is_kind_from 14 16) k ks,
       barrier-bytes-one k,
       barrier-bytes ks,
       count-more (is_kind kind.TheVariants.Arrived) k ks,
@@ -403,13 +403,13 @@ barrier-bytes (k ∷ ks) =
       count-more (is_kind kind.TheVariants.Halt) k ks,
     )
 
-kind-bytes : (k : EventKind) (ks : List EventKind) → kinds_bytes (is_kind k) ks ≡ bytes_of k * count_by (is_kind k) ks
+kind-bytes : (k : EventKind) (ks : List EventKind) → kinds_bytes (is_kind k) ks ≡ bytes_of_kind k * count_by (is_kind k) ks
 kind-bytes k [] = omega arith
 kind-bytes k (j ∷ ks) =
     bytes-cons (is_kind k) j ks ∙ rw (kind-bytes k ks, count-more (is_kind k) j ks) (by_test (is_kind k j) refl)
   where
-    by_test : (t : Bool) → is_kind k j ≡ t → cond t (bytes_of j) 0 + bytes_of k * count_by (is_kind k) ks ≡ bytes_of k * (cond t 1 0 + count_by (is_kind k) ks)
-    by_test true e = let same : bytes_of k ≡ bytes_of j = ap bytes_of (same-kind k j e) in rw (sym same) (omega arith)
+    by_test : (t : Bool) → is_kind k j ≡ t → cond t (bytes_of_kind j) 0 + bytes_of_kind k * count_by (is_kind k) ks ≡ bytes_of_kind k * (cond t 1 0 + count_by (is_kind k) ks)
+    by_test true e = let same : bytes_of_kind k ≡ bytes_of_kind j = ap bytes_of_kind (same-kind k j e) in rw (sym same) (omega arith)
     by_test false e = omega arith
 
 module _ (C : Setting) (events : List Event) (ready : IsReady C) (run : IsRun (initial_state C) events) where
@@ -433,13 +433,13 @@ module _ (C : Setting) (events : List Event) (ready : IsReady C) (run : IsRun (i
   counted k m its = tally-is m ∙ ap capped (messages-of-kind C events k m its ready run)
 
   -- sums of numbers
-  more-numbers : (m : Measure) (ms : List Measure) → numbers_of t 0 (m ∷ ms) ≡ tally_of m 0 t + numbers_of t 0 ms
+  more-numbers : (m : Measure) (ms : List Measure) → sum_of_measures t 0 (m ∷ ms) ≡ tally_of m 0 t + sum_of_measures t 0 ms
   more-numbers m ms = sum_by-cons (λ (n : ℕ). n) (tally_of m 0 t) (map (λ (other : Measure). tally_of other 0 t) ms)
 
-  no-numbers : numbers_of t 0 [] ≡ 0
+  no-numbers : sum_of_measures t 0 [] ≡ 0
   no-numbers = refl
 
-  pub words-are : row_number t 0 row.WordBytes ≡ capped (bytes_handled (is_between 3 10) S events)
+  pub words-are : row_number t 0 row.WordBytes ≡ capped (bytes_handled (is_kind_from 3 10) S events)
   words-are =
       omega (
         arith,
@@ -454,7 +454,7 @@ module _ (C : Setting) (events : List Event) (ready : IsReady C) (run : IsRun (i
         no-numbers,
       )
 
-  pub locks-are : row_number t 0 row.LockBytes ≡ capped (bytes_handled (is_between 11 13) S events)
+  pub locks-are : row_number t 0 row.LockBytes ≡ capped (bytes_handled (is_kind_from 11 13) S events)
   locks-are =
       omega (
         arith,
@@ -468,7 +468,7 @@ module _ (C : Setting) (events : List Event) (ready : IsReady C) (run : IsRun (i
         no-numbers,
       )
 
-  pub barriers-are : row_number t 0 row.BarrierBytes ≡ capped (bytes_handled (is_between 14 16) S events)
+  pub barriers-are : row_number t 0 row.BarrierBytes ≡ capped (bytes_handled (is_kind_from 14 16) S events)
   barriers-are =
       omega (
         arith,

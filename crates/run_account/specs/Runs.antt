@@ -127,8 +127,8 @@ told_core (Core core) = Some (core, None)
 told_core (Bank bank) = None
 told_core Keeper = None
 
-abbrev pub with_word : CoreId × WordId → CoreId × Option WordId
-with_word (core, word) = (core, Some word)
+abbrev pub about_its_word : CoreId × WordId → CoreId × Option WordId
+about_its_word (core, word) = (core, Some word)
 
 abbrev pub carried : Actor → Message → Option (CoreId × Option WordId)
 carried to (Acquire lock core) = Some (core, None)
@@ -137,7 +137,7 @@ carried to (Grant lock signature) = told_core to
 carried to (Arrived core bad) = Some (core, None)
 carried to (Go phase) = told_core to
 carried to Halt = told_core to
-carried to message = option_map with_word (served to message)
+carried to message = option_map about_its_word (served to message)
 
 -- a message counts for that core in its phase
 abbrev pub phase_in : Option NodeParts → ℕ

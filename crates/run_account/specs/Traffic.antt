@@ -16,23 +16,23 @@ use Rattle.run_account.specs.Tallies.{Tallies, capped, tally_of}
 -- ---- the bytes of a message
 
 -- each has 8 bytes; the value of a word has 4 more, and a signature, which has 256 bits and a phase, 33 more
-abbrev pub bytes_of : EventKind → ℕ
-bytes_of DataReply = 12
-bytes_of WriteBack = 12
-bytes_of Release = 41
-bytes_of Grant = 41
-bytes_of k = 8
+abbrev pub bytes_of_kind : EventKind → ℕ
+bytes_of_kind DataReply = 12
+bytes_of_kind WriteBack = 12
+bytes_of_kind Release = 41
+bytes_of_kind Grant = 41
+bytes_of_kind k = 8
 
 -- ---- rows
 
 -- the sum of the numbers of these measures in a group
-abbrev pub numbers_of : Tallies → ℕ → List Measure → ℕ
-numbers_of t group ms = sum (map (λ (m : Measure). tally_of m group t) ms)
+abbrev pub sum_of_measures : Tallies → ℕ → List Measure → ℕ
+sum_of_measures t group ms = sum (map (λ (m : Measure). tally_of m group t) ms)
 
 -- the bytes of messages: 8 for each, 4 for each value of a word, and 33 for each signature, which has 256 bits and a phase
 abbrev pub bytes_with : Tallies → ℕ → List Measure → List Measure → List Measure → ℕ
 bytes_with t group messages values signatures =
-    capped (8 * numbers_of t group messages + 4 * numbers_of t group values + 33 * numbers_of t group signatures)
+    capped (8 * sum_of_measures t group messages + 4 * sum_of_measures t group values + 33 * sum_of_measures t group signatures)
 
 abbrev pub row_number : Tallies → ℕ → TrafficRow → ℕ
 row_number t group (row.Count m) = tally_of m group t
@@ -78,12 +78,12 @@ traffic_word row.ListLockBytes = codes "list-lock-bytes"
 -- ---- what the laws speak of
 
 -- the kinds of the messages about words, about locks, and of the barrier
-abbrev pub is_between : ℕ → ℕ → EventKind → Bool
-is_between first last k = nat_le first (kind_index k) && nat_le (kind_index k) last
+abbrev pub is_kind_from : ℕ → ℕ → EventKind → Bool
+is_kind_from first last k = nat_le first (kind_index k) && nat_le (kind_index k) last
 
 -- the bytes of the messages of these kinds that the events from a state on handle
 abbrev pub kinds_bytes : (EventKind → Bool) → List EventKind → ℕ
-kinds_bytes test kinds = sum (map (λ (k : EventKind). if test k then bytes_of k else 0) kinds)
+kinds_bytes test kinds = sum (map (λ (k : EventKind). if test k then bytes_of_kind k else 0) kinds)
 
 abbrev pub bytes_handled : (EventKind → Bool) → State → List Event → ℕ
 bytes_handled test S events = kinds_bytes test (kinds_of S events)

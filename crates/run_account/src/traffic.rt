@@ -4,7 +4,7 @@ ghost use Rattle.std.specs.List.{range_with_len};
 ghost use Rattle.run_account.specs.Forms.{csv_head, names_row, traffic_cell, traffic_row_text, traffic_table_text, traffic_line, traffic_lines, traffic_csv_text};
 ghost use Rattle.run_account.specs.declared.measure.Measure.TheVariants as measure;
 ghost use Rattle.run_account.specs.Tallies.{capped};
-ghost use Rattle.run_account.specs.Traffic.{numbers_of, bytes_with, row_number, traffic_word, traffic_rows};
+ghost use Rattle.run_account.specs.Traffic.{sum_of_measures, bytes_with, row_number, traffic_word, traffic_rows};
 
 use crate::columns::{push_head, push_left, push_number};
 use crate::csv::{has_line, push_csv_head, push_named};
@@ -18,7 +18,7 @@ use text_pieces::push;
 
 /// The sum of the numbers of these measures in a group; it stays at its type's end.
 fn sum_of(table: &AccountTable, group: usize, measures: &[Measure]) -> u64
-    ensures { result ≡ capped (numbers_of table.now group measures.now) }
+    ensures { result ≡ capped (sum_of_measures table.now group measures.now) }
 {
     let mut sum = 0u64;
     for measure in measures {

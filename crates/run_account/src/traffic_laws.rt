@@ -13,7 +13,7 @@ ghost use Rattle.run_account.specs.declared.traffic_row.TrafficRow.TheVariants.{
 ghost use Rattle.run_account.specs.Kinds.{events_of_kind, is_kind};
 ghost use Rattle.run_account.specs.Runs.{kind_measure, number_of_both, nothing_listed, count_of_run};
 ghost use Rattle.run_account.specs.Tallies.{capped};
-ghost use Rattle.run_account.specs.Traffic.{bytes_row, row_number, is_between, bytes_handled};
+ghost use Rattle.run_account.specs.Traffic.{bytes_row, row_number, is_kind_from, bytes_handled};
 
 /// In a run of the machine of a checked program the number of each kind of message is how many events handle one.
 pub fn each_message_is_counted_for_its_kind()
@@ -27,9 +27,9 @@ pub fn bytes_are_those_of_the_messages()
     ensures kind { (C : Setting) (events : List Event) (k : EventKind) (m : Measure) → kind_measure k ≡ Some m → IsReady C → IsRun (initial_state C) events
         → row_number (count_of_run (initial_state C) (nothing_listed (initial_state C).setting Run) events).tallies 0 (bytes_row m) ≡ capped (bytes_handled (is_kind k) (initial_state C) events) }
     ensures words { (C : Setting) (events : List Event) → IsReady C → IsRun (initial_state C) events
-        → row_number (count_of_run (initial_state C) (nothing_listed (initial_state C).setting Run) events).tallies 0 WordBytes ≡ capped (bytes_handled (is_between 3 10) (initial_state C) events) }
+        → row_number (count_of_run (initial_state C) (nothing_listed (initial_state C).setting Run) events).tallies 0 WordBytes ≡ capped (bytes_handled (is_kind_from 3 10) (initial_state C) events) }
     ensures locks { (C : Setting) (events : List Event) → IsReady C → IsRun (initial_state C) events
-        → row_number (count_of_run (initial_state C) (nothing_listed (initial_state C).setting Run) events).tallies 0 LockBytes ≡ capped (bytes_handled (is_between 11 13) (initial_state C) events) }
+        → row_number (count_of_run (initial_state C) (nothing_listed (initial_state C).setting Run) events).tallies 0 LockBytes ≡ capped (bytes_handled (is_kind_from 11 13) (initial_state C) events) }
     ensures barrier { (C : Setting) (events : List Event) → IsReady C → IsRun (initial_state C) events
-        → row_number (count_of_run (initial_state C) (nothing_listed (initial_state C).setting Run) events).tallies 0 BarrierBytes ≡ capped (bytes_handled (is_between 14 16) (initial_state C) events) }
+        → row_number (count_of_run (initial_state C) (nothing_listed (initial_state C).setting Run) events).tallies 0 BarrierBytes ≡ capped (bytes_handled (is_kind_from 14 16) (initial_state C) events) }
 {}

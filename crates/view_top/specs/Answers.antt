@@ -148,15 +148,15 @@ pub record IsListingOf (P : ProgramParts) (shape : Shape) (fuel : ℕ) (events :
   pub is : tallies ≡ (count_of_run (initial_state setting) (nothing_listed setting by) events).tallies
 
 -- which of these numbers are printed: those of the run beside lists, or those of its traffic
-abbrev pub numbers_text : Numbers → Form → ProgramParts → Tallies → List ℕ
-numbers_text numbers.TheVariants.Lists form P t = lists_text form P t
-numbers_text numbers.TheVariants.Traffic form P t = traffic_text form P t
+abbrev pub text_of_numbers : Numbers → Form → ProgramParts → Tallies → List ℕ
+text_of_numbers numbers.TheVariants.Lists form P t = lists_text form P t
+text_of_numbers numbers.TheVariants.Traffic form P t = traffic_text form P t
 
 -- the output is the run beside lists, or its traffic, in the groups and in the form that the options ask for
 pub record IsBeside (which : Numbers) (P : ProgramParts) (s : TraceShape) (o : AccountOptions) (r : RunRecord) (out : Output) : Type 0 where
   pub tallies : Tallies
   pub counted : IsListingOf P (shape_told P s) s.fuel r.events o.by tallies
-  pub answer : out ≡ made (heading_of o.form r ++ numbers_text which o.form P tallies)
+  pub answer : out ≡ made (heading_of o.form r ++ text_of_numbers which o.form P tallies)
 
 -- ---- a state
 

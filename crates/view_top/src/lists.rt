@@ -4,7 +4,7 @@ ghost use Rattle.machine_rules.specs.Runs.{IsRun};
 ghost use Rattle.run_account.specs.Runs.{count_of_run, nothing_listed};
 ghost use Rattle.run_report.specs.Texts.{HasProgram, IsStop};
 ghost use Rattle.checked_runs.specs.Documents.{IsRefusedDocument, shape_told};
-ghost use Rattle.view_top.specs.Answers.{heading_of, made, numbers_text, HasKeptRun, IsBeside, IsListingOf};
+ghost use Rattle.view_top.specs.Answers.{heading_of, made, text_of_numbers, HasKeptRun, IsBeside, IsListingOf};
 ghost use Rattle.view_top.specs.Kept.{IsMachineOf, IsViewable};
 
 use crate::AccountOptions;
@@ -70,7 +70,7 @@ fn push_numbers(
     program: &Program,
     table: &AccountTable,
 ) -> Result<(), Memory>
-    ensures { OnOk result (out.new.items ≡ out.old.items ++ numbers_text which form program.now table.now) }
+    ensures { OnOk result (out.new.items ≡ out.old.items ++ text_of_numbers which form program.now table.now) }
 {
     match which {
         Numbers::Lists => push_lists(out, form, program, table),
@@ -89,7 +89,7 @@ fn print(
 ) -> Result<Output, Memory>
     requires kept { IsViewable kept.now }
     requires machine { IsMachineOf kept.now machine.now }
-    ensures { IfOk result (λ out. HasProgram kept.now.text (λ P. out ≡ made (heading_of form kept.now.run ++ numbers_text which form P listing.now.tallies))) }
+    ensures { IfOk result (λ out. HasProgram kept.now.text (λ P. out ≡ made (heading_of form kept.now.run ++ text_of_numbers which form P listing.now.tallies))) }
 {
     let mut text = heading(alloc, form, &kept.run)?;
     push_numbers(&mut text, which, form, machine.program(), listing.table())?;
