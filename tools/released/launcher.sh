@@ -49,6 +49,19 @@ run() {
     child=""
 }
 
+# Whether standard input is a file whose lines end in carriage returns alone. They are one line to the programs.
+has_bare_returns() {
+    [ -f /dev/stdin ] || return 1
+    return_sign=$(printf '\r')
+    text=$(head -c 1100 /dev/stdin && echo .) || return 1
+    case $text in
+    *"
+"*) return 1 ;;
+    *"$return_sign"*) return 0 ;;
+    *) return 1 ;;
+    esac
+} 2> /dev/null
+
 makes_page() {
     before=""
     for word in "$@"; do
@@ -101,6 +114,9 @@ if makes_page "$@"; then
 else
     run "$@"
 fi
+case $code in
+0 | 2) if has_bare_returns; then say "standard input has carriage returns and no newline, so it is one line: a line ends with a newline"; fi ;;
+esac
 case $code in
 1) cat -- "$here/share/help/@NAME@.txt" >&2 ;;
 2 | 3 | 4 | 5) if [ "@NAME@" = denovo ]; then say "to see where in the text, and what would be right:  ./denovo${*:+ $*} < TEXT | ./explain TEXT"; fi ;;
