@@ -19,6 +19,7 @@ import json
 import os
 import pathlib
 import re
+import threading
 
 DATA = 0x10000000
 HERE = pathlib.Path(__file__).resolve().parent
@@ -64,17 +65,40 @@ def _held(code):
 
 
 def _bytes(text):
-    return text.encode() if isinstance(text, str) else bytes(text)
+    """A text, a document or a claim as bytes."""
+    if isinstance(text, str):
+        return text.encode()
+    if isinstance(text, (bytes, bytearray, memoryview)):
+        return bytes(text)
+    raise TypeError(f"a text is str or bytes, and not {type(text).__name__}")
+
+
+def _word(word):
+    """A command word with the zero byte behind it, by which words are told apart."""
+    word = str(word).encode()
+    if b"\0" in word:
+        raise ValueError(f"{word!r} has a zero byte, and no command word has one")
+    return word + b"\0"
+
+
+# each program, and how many sources it reads
+_SOURCES = {"denovo": 1, "view": 1, "outcomes": 1, "referee": 1, "explain": 2}
 
 
 def call(program, words, *sources):
     """What a program (denovo, view, outcomes, referee or explain) answers to command words and its sources: the exit code and the bytes."""
-    function = getattr(_loaded(), program + "_answer")
-    function.restype = ctypes.c_int32
-    block = b"".join(str(word).encode() + b"\0" for word in words)
+    if program not in _SOURCES:
+        raise ValueError(f"{program!r} is no program of the library")
+    if len(sources) != _SOURCES[program]:
+        raise TypeError(f"{program} reads {_SOURCES[program]} sources, and {len(sources)} are given")
+    if isinstance(words, (str, bytes)):
+        raise TypeError("the command words are a list")
+    block = b"".join(map(_word, words))
     given = []
     for part in (block, *map(_bytes, sources)):
         given += [ctypes.c_char_p(part), ctypes.c_size_t(len(part))]
+    function = getattr(_loaded(), program + "_answer")
+    function.restype = ctypes.c_int32
     room = 1 << 16
     while True:
         out, written = ctypes.create_string_buffer(room), ctypes.c_size_t(0)
@@ -102,14 +126,11 @@ def _told(program, options, *sources, text=None):
 
 
 def regions_of(text):
-    """The regions that a text declares: the first word and the number of words of each name."""
+    """The regions that a text declares, as the assembler reads it: the first word and the number of words of each name."""
     found, first = {}, 0
-    for line in _bytes(text).decode(errors="replace").split("\n"):
-        parts = re.fullmatch(r"\s*(?:[\w.]+\s*:)?\s*\.region\s+([\w.]+)\s*,\s*(0x[0-9a-fA-F]+|\d+)\s*", line.split("#")[0])
-        if parts:
-            count = int(parts[2], 16 if parts[2].startswith("0x") else 10)
-            found.setdefault(parts[1], (first, count))
-            first += count
+    for name, count in re.findall(r"^\.region ([^ ,]+), ([0-9]+)$", listing(text), re.M):
+        found[name] = first, int(count)
+        first += int(count)
     return found
 
 
@@ -333,17 +354,28 @@ class _Event(ctypes.Structure):
 
 # the lines of a trace, by the kinds of event of include/denovo_step.h
 _LINES = ("i {0}", "e {0} {1}", "a {0}", "h c {0} {1}", "h b {0} {1}", "h k {1}")
-_FORMS = [re.compile(line.replace("{0}", r"(?P<actor>\d+)").replace("{1}", r"(?P<number>\d+)")) for line in _LINES]
+_FORMS = [re.compile(line.replace("{0}", r"(?P<actor>[0-9]+)").replace("{1}", r"(?P<number>[0-9]+)")) for line in _LINES]
 
 
 def _event(line):
     """The event of a line of a trace."""
+    if not isinstance(line, str):
+        raise TypeError(f"an event is a line of a trace, as 'i 0', and not {type(line).__name__}")
     for kind, form in enumerate(_FORMS):
         found = form.fullmatch(line)
         if found:
-            named = {name: int(number) for name, number in found.groupdict().items()}
+            named = {name: _number(f"the {name} of {line!r}", int(number)) for name, number in found.groupdict().items()}
             return _Event(kind, **named)
     raise ValueError(f"{line!r} is no event")
+
+
+def _number(name, number):
+    """A number of 32 bits as C has it. ctypes would cut a larger one."""
+    if isinstance(number, bool) or not isinstance(number, int):
+        raise TypeError(f"{name} is a number, and not {type(number).__name__}")
+    if not 0 <= number < 1 << 32:
+        raise ValueError(f"{name} is {number}, and isn't from 0 to {(1 << 32) - 1}")
+    return number
 
 
 class Stepper:
@@ -358,13 +390,21 @@ class Stepper:
         stepper.events             # the events so far
         stepper.answer()           # the answer, once no event is enabled
 
-    It may begin behind the first events of a run: denovo.Stepper(text, events=denovo.events(denovo.trace(text, seed=7))[:40])."""
+    It may begin behind the first events of a run: denovo.Stepper(text, events=denovo.events(denovo.trace(text, seed=7))[:40]).
+
+    A machine can't be copied; a second one with the same events is denovo.Stepper(text, events=stepper.events). It belongs to the thread that
+    steps it. Calls of several threads don't damage it, because each waits for the one before, but the events of one are in the way of the others."""
 
     def __init__(self, text, banks=4, sets=64, ways=4, fuel=32768, events=()):
-        self._machine = _Machine()
+        self._machine, self._lock = _Machine(), threading.RLock()
         self.text, self.events = _bytes(text), []
         self._sizes = {"banks": banks, "sets": sets, "ways": ways, "fuel": fuel}
+        for name, number in self._sizes.items():
+            _number(name, number)
         self._open(events)
+
+    def __reduce_ex__(self, protocol):
+        raise TypeError("a machine can't be copied: denovo.Stepper(text, events=stepper.events) makes another one")
 
     def _open(self, events):
         """Opens the machine anew, and makes these events."""
@@ -382,10 +422,12 @@ class Stepper:
     def _call(self, name, *given, result=ctypes.c_int32):
         function = getattr(_loaded(), "denovo_" + name)
         function.restype = result
-        return function(ctypes.byref(self._machine), *given)
+        with self._lock:
+            return function(ctypes.byref(self._machine), *given)
 
     def __del__(self):
-        if self._machine.at:
+        machine = getattr(self, "_machine", None)
+        if machine is not None and machine.at:
             self._call("close", result=None)
 
     @property
@@ -401,21 +443,24 @@ class Stepper:
 
     def step(self, event):
         """Makes an enabled event."""
-        code = self._call("step", ctypes.byref(_event(event)))
-        if code == 3:
-            raise ValueError(self.why_not(event))
-        _held(code)
-        self.events.append(event)
+        made = _event(event)
+        with self._lock:
+            code = self._call("step", ctypes.byref(made))
+            if code == 3:
+                raise ValueError(self.why_not(event))
+            _held(code)
+            self.events.append(event)
 
     def undo(self, count=1):
         """Takes the last events back; it makes the others again."""
-        if not 0 <= count <= len(self.events):
-            raise IndexError(count)
-        self._open(self.events[:len(self.events) - count])
+        with self._lock:
+            if not 0 <= count <= len(self.events):
+                raise IndexError(count)
+            self._open(self.events[:len(self.events) - count])
 
     def word(self, index):
         """The present value of a data word: that of its pending entry if a core has one, else that at its home or in its owner's entry."""
-        return self._call("word", ctypes.c_uint32(index), result=ctypes.c_uint32)
+        return self._call("word", ctypes.c_uint32(_number("the word's index", index)), result=ctypes.c_uint32)
 
     def __getitem__(self, name):
         first, count = regions_of(self.text)[name]
@@ -446,10 +491,17 @@ class Stepper:
         return Answer(self.text, _told("denovo", {"mode": "replay"}, self.trace)[1])
 
 
+_MODES_OF_LISTS = ("judge", "diagnose", "settled")
+
+
 def referee(claim, mode="judge"):
     """What the referee says of a claim: whether it agrees, and the lines. The modes are judge, diagnose, settled, answer and least. Of a list of
     claims it gives a list, by the first three modes; a claim that is refused is the last that is answered."""
     if isinstance(claim, (list, tuple)):
+        if not claim:
+            raise ValueError("there is no claim in the list")
+        if mode not in _MODES_OF_LISTS:
+            raise ValueError(f"the mode {mode!r} takes one claim, and no list; the modes of lists are {', '.join(_MODES_OF_LISTS)}")
         answer = call("referee", _words({"mode": mode, "batch": "on"}), b"".join(map(_bytes, claim)))[1].decode()
         return [(told.startswith("agrees\n"), told) for told in re.split(r"^claim \d+\n", answer, flags=re.M)[1:]]
     code, answer = _told("referee", {"mode": mode}, claim)

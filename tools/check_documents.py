@@ -14,7 +14,7 @@ of their indented blocks and of the comments in examples/:
 - `File.name` of docs/DEFINITION.md has to be defined in that file of the source language's definition;
 - each crate has a page README.md, or a place in crates/TESTS.md;
 - no line of a table has more than 300 characters, no cell of one more than 40 words, and no page more words than tools/checking/lengths.py says;
-- the toolchain that README.md names is the one that is here, where `rt` is on the path;
+- the logic of the toolchain that README.md names is that of the one here, where `rt` is on the path; a kit of another name is told;
 - no prose, and no doc comment of the code, has a house word of tools/checking/house_words.txt but where it is explained.
 The syntax files of tools/editors/ have to have each word of docs/LANGUAGE.md. Each text of examples/ has to be the same as its copy in
 crates/worked_rows/data, which the cases run, each of examples/litmus the same as that of its case in litmus.cases, and the text at the head of
@@ -165,9 +165,12 @@ page = re.search(r"\n\n((?:    .*\n)+)", pathlib.Path("docs/LANGUAGE.md").read_t
 if case != re.sub(r"(?m)^  ", "", page):
     found.append("docs/LANGUAGE.md: its text differs from the case language-page")
 if shutil.which("rt"):
-    kit = subprocess.run(["rt", "version"], capture_output=True, text=True).stdout.strip()
-    if f"\n    {kit}\n" not in pathlib.Path("README.md").read_text():
-        found.append(f"README.md: the toolchain here is {kit}, and it names another")
+    kit, _, logic = subprocess.run(["rt", "version"], capture_output=True, text=True).stdout.strip().partition(" logic ")
+    named = re.search(r"^    (\S+) logic (\S+)$", pathlib.Path("README.md").read_text(), re.M)
+    if not named or named[2] != logic:
+        found.append(f"README.md: the logic of the toolchain here is {logic}, and it names {named[2] if named else 'none'}")
+    elif named[1] != kit:
+        print(f"the toolchain here is {kit}; README.md names {named[1]}, whose logic is the same", file=sys.stderr)
 found += lacking_words()
 found += too_long(tracked)
 found += [f"{name}:{number}: a house word: {word}; the field says: {field}" for name, number, word, field in house_words([*pages(), *code_files()])]

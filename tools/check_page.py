@@ -9,7 +9,8 @@ browser tools/check_page.js presses Next for each event, and then Back. After ea
 machine of tools/reference.py, and with tools/reference/marks.py the copies that are marked as stale, what the sentence says of them and of
 lists of sharers, and the counters. It presses each other button that steps, and its keys, and compares the events that come; also without
 plain instructions, for one word alone, played, by the strip, by addresses and in the presenter's view. It looks whether all that can be
-pressed has a name, whether each text has a contrast of 4.5 in both schemes of colours, and whether an event prints on one sheet. With
+pressed has a name, whether each text has a contrast of 4.5 in both schemes of colours, whether comments in UTF-8 are shown as they are, and
+whether an event prints on one sheet. With
 --program the text that `./view --mode state` prints before each of these events is compared too, with the one of the same machine. It is
 outside the gate. With --shot it leaves pictures of the page in the folder, as the list SHOTS has them,
 after an event that leaves a stale copy where there is one.
@@ -28,6 +29,8 @@ HERE = os.path.dirname(os.path.abspath(__file__))
 EXAMPLES = ["stale-copy", "signature", "eviction-race", "locked-counter", "crossed-locks", "trap", "endless", "touched-bit"]
 MARK = "@@RUN@@"
 # width and height of the window, how much larger the page is shown, and whether it is the presenter's view
+# a text with comments of several bytes a sign
+COMMENTS = "# Grüße, €, 语, 🙂\n.region m, 1 # é\n.phase\n.task 0, f, 0\nf: li a7, 0\n ecall # ‑\n"
 SHOTS = [(1280, 800, 1, False), (1280, 800, 1.5, False), (1024, 768, 1, False),
          (1280, 800, 1, True), (1280, 800, 1.5, True), (1024, 768, 1, True)]
 
@@ -64,7 +67,8 @@ def differing_states(document, first, count):
 
 def check(browser, folder, path, options):
     with open(path, "rb") as file:
-        document = reference("--mode", "trace", data=file.read())
+        text = file.read()
+    document = reference("--mode", "trace", data=text)
     name = os.path.basename(path)
     page = (page_of_program if options.program else page_of_reference)(document, options, name)
     if page is None:
@@ -82,6 +86,8 @@ def check(browser, folder, path, options):
         browser.run(file.read())
     verdict = browser.run("checkPage(%s)" % json.dumps(wanted))
     faults = verdict["bad"] + looks(browser, folder)
+    if browser.run("LINES.join('\\n') + '\\n'") != text.decode(errors="replace"):
+        faults.append("the text is shown otherwise")
     stale, lists = len([pairs for pairs in wanted["marks"]["states"] if pairs]), len([one for one in wanted["marks"]["said"] if one["lists"]])
     print("%s: %d events, %d states with stale copies, %d sentences of lists, %d faults%s" % (
         name, verdict["events"], stale, lists, max(verdict["count"], len(faults)), "".join("; " + bad for bad in faults)), flush=True)
@@ -130,8 +136,11 @@ def main():
     if command() is None:
         print("no browser is here: nothing was checked")
         return 0
-    texts = options.texts or [os.path.join(HERE, "..", "examples", name + ".s") for name in EXAMPLES]
     with tempfile.TemporaryDirectory() as folder, Browser() as browser:
+        comments = os.path.join(folder, "comments.s")
+        with open(comments, "wb") as file:
+            file.write(COMMENTS.encode())
+        texts = options.texts or [comments] + [os.path.join(HERE, "..", "examples", name + ".s") for name in EXAMPLES]
         return 0 if all([check(browser, folder, path, options) for path in texts]) else 1
 
 

@@ -22,7 +22,7 @@ import time
 TOP = pathlib.Path(__file__).resolve().parent.parent
 os.chdir(TOP)
 sys.dont_write_bytecode = True
-from checking import calls, charts, claimed, commands, constants, explained, exported, settled, shown, swept, told  # noqa: E402
+from checking import calls, charts, claimed, commands, constants, explained, exported, from_python, settled, shown, swept, told  # noqa: E402
 from checking.counting import KIND, take  # noqa: E402
 
 # Each part runs in a process of its own, as many at once as there are processors: those that take longest begin first.
@@ -53,8 +53,11 @@ PARTS = [functools.partial(shown.states_are_those_of_the_reference, example, wor
     exported.data_are_those_of_the_reference,
     exported.traces_are_read_back,
     exported.waves_are_read_back,
+    exported.words_with_like_names_have_scopes_of_their_own,
+    exported.no_tool_ends_in_a_traceback,
     exported.listings_are_read_by_the_gnu_assembler,
     exported.expectations_are_compared,
+    from_python.calls_are_refused,
     charts.each_mode_has_its_own_options,
     settled.made_texts_have_the_outcomes_of_the_reference,
     settled.cases_have_their_outcomes,

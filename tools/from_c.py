@@ -25,6 +25,8 @@ import subprocess
 import sys
 import tempfile
 
+from ending import end
+
 TOP = pathlib.Path(__file__).resolve().parent.parent
 CROSS = os.environ.get("CROSS", "riscv64-unknown-elf-")
 CODE, DATA, WORD = 0x1000, 0x10000000, 4
@@ -242,10 +244,10 @@ def main():
 
 if __name__ == "__main__":
     try:
-        sys.exit(main())
+        sys.exit(end("from_c", main))
     except Usage as told:
         print(f"from_c: {told}\n\n{__doc__}", file=sys.stderr)
         sys.exit(1)
-    except (Refused, OSError, UnicodeDecodeError) as told:
+    except Refused as told:
         print(f"from_c: {told}", file=sys.stderr)
         sys.exit(2)

@@ -17,6 +17,8 @@ somewhere else to come from. It takes texts that assemble and check; it refuses 
                                             report and a table
     tools/reference.py lists [run|phase|core|region [csv|text]] < DOCUMENT
                                             the same of the run beside lists of sharers
+    tools/reference.py traffic [run|phase|core|region [csv|text]] < DOCUMENT
+                                            the same of the run's messages by their kinds, and of their bytes
     tools/reference.py readers [10|16] < DOCUMENT
                                             the answer of a document's run for readers, with numbers of this base
     tools/reference.py state [N] < DOCUMENT the state before event N of a document, from 0, and which events may come there, in the lines
@@ -70,7 +72,8 @@ It exits with the program's exit code, 1 where cases or rows differ, and 9 where
 import sys
 
 sys.dont_write_bytecode = True
-from reference.command import main  # noqa: E402: the folder beside this file has the modules
+from ending import end  # noqa: E402: the folder of this file has the modules
+from reference.command import main  # noqa: E402
 
 if __name__ == "__main__":
-    sys.exit(main(__doc__))
+    sys.exit(end("tools/reference.py", lambda: main(__doc__)))

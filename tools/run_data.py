@@ -2,6 +2,8 @@
 import json
 import sys
 
+from ending import end
+
 KINDS = ("instr", "evict", "arrive", "read-req", "read-fwd", "data-reply", "reg-req", "reg-fwd", "reg-ack", "write-back", "wb-ack", "acquire",
          "release", "grant", "arrived", "go", "halt")
 OWN = KINDS[:3]
@@ -10,6 +12,10 @@ OF_BANKS = ("read-req", "reg-req", "write-back", "acquire", "release")
 OF_WORDS = KINDS[3:11]
 OF_LOCKS = KINDS[11:14]
 KEEPER = 32
+
+
+class NoWord(Exception):
+    """A word that the run hasn't."""
 
 
 def actor_name(actor):
@@ -54,6 +60,10 @@ def phases_of(data, ends):
 
 def call(program, page, write, takes=()):
     """Calls a tool on standard input: `write` makes its output of the data and of the values of the options `takes`, or says what is wrong."""
+    return end(program, lambda: answer(program, page, write, takes))
+
+
+def answer(program, page, write, takes):
     words, given = sys.argv[1:], {}
     while words and words[0] in takes and len(words) > 1:
         given[words[0]] = words[1]
@@ -63,14 +73,22 @@ def call(program, page, write, takes=()):
         return 0 if words[0] == "--help" else 1
     try:
         data = json.load(sys.stdin)
-    except ValueError:
+    except (ValueError, RecursionError):
         data = {}
     if not isinstance(data, dict) or data.get("format") != "denovo-data 1":
-        print(f"{program}: this isn't what './view --mode data' writes", file=sys.stderr)
-        return 2
+        return refuse(program)
     try:
-        sys.stdout.write(write(data, given))
-    except LookupError as fault:
-        print(f"{program}: {fault.args[0]}", file=sys.stderr)
+        text = write(data, given)
+    except NoWord as fault:
+        print(f"{program}: {fault}", file=sys.stderr)
         return 1
+    except (LookupError, TypeError, ValueError, AttributeError):
+        # a part isn't there, or isn't of its form
+        return refuse(program)
+    sys.stdout.write(text)
     return 0
+
+
+def refuse(program):
+    print(f"{program}: this isn't what './view --mode data' writes", file=sys.stderr)
+    return 2

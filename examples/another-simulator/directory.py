@@ -23,6 +23,7 @@ import sys
 from pathlib import Path
 
 sys.path.insert(0, str(Path(__file__).resolve().parents[2] / "tools"))
+from ending import end  # noqa: E402
 from reference import TaskState, Unfit, answer_text, assemble, claim_text, decode
 
 BUGS = {
@@ -440,4 +441,4 @@ def main():
 
 
 if __name__ == "__main__":
-    sys.exit(main())
+    sys.exit(end("directory.py", main))

@@ -17,6 +17,7 @@ import sys
 from pathlib import Path
 
 sys.path.insert(0, str(Path(__file__).resolve().parents[2] / "tools"))
+from ending import end  # noqa: E402
 from reference import TaskState, Unfit, answer_text, assemble, claim_text, decode
 
 
@@ -102,4 +103,4 @@ def main():
 
 
 if __name__ == "__main__":
-    sys.exit(main())
+    sys.exit(end("simulate.py", main))

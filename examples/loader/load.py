@@ -2,6 +2,7 @@
 """Reads a listing into what a simulator runs, and prints it: ./denovo --mode list < TEXT | examples/loader/load.py
 
 load.c beside it prints the same. tools/check_litmus compares both with the program that tools/reference.py makes of the text."""
+import os
 import re
 import sys
 
@@ -32,8 +33,7 @@ def load(listing):
     return memory, len(locks), phases, code
 
 
-def main():
-    memory, locks, phases, code = load(sys.stdin)
+def tell(memory, locks, phases, code):
     print("words", len(memory), "locks", locks)
     for place, value in enumerate(memory):
         if value:
@@ -47,5 +47,21 @@ def main():
         print("code", word, *numbers)
 
 
+def main():
+    try:
+        loaded = load(sys.stdin)
+    except (LookupError, ValueError, UnboundLocalError):
+        print("load.py: this isn't what './denovo --mode list' prints", file=sys.stderr)
+        return 2
+    try:
+        tell(*loaded)
+        sys.stdout.flush()
+    except OSError as fault:
+        print(f"load.py: standard output failed: {fault.strerror}", file=sys.stderr)
+        os.dup2(os.open(os.devnull, os.O_WRONLY), 1)
+        return 7
+    return 0
+
+
 if __name__ == "__main__":
-    main()
+    sys.exit(main())

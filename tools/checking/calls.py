@@ -70,7 +70,7 @@ def every_exit_code_comes():
         wanted = b"refused check phase 0 plain-conflict"
         check(f"{program[0]}: exit code 2", ran.returncode == 2 and ran.stdout.startswith(wanted), ran.stdout)
     for program in programs("view"):
-        for mode in ("chart", "account", "lists", "state", "answer", "page", "data"):
+        for mode in ("chart", "account", "lists", "traffic", "state", "answer", "page", "data"):
             ran = run(program + ["--mode", mode], b"no document\n")
             check(f"{program[0]} --mode {mode}: exit code 2", (ran.returncode, ran.stdout) == (2, b"refused trace head\n"))
 

@@ -11,7 +11,7 @@ from .counting import check, run
 # how a line begins that is a command, and not a part of a program or of an output
 COMMAND = re.compile(r"(?:[A-Z_]+=\S+ )?(?:\./[a-z]|tools/|experiments/|examples/|/tmp/|for |sed |cc |apt-get )")
 # what stands for something of the reader's own
-MEANT = {"[OPTIONS] ": "", "[--fuel N] ": "--fuel 9 ", "[--seeds 1..1000] ": "--seeds 1..9 ", "[--mode diagnose] ": "--mode diagnose ", "chart|account|lists|state|answer|page|data": "account",
+MEANT = {"[OPTIONS] ": "", "[--fuel N] ": "--fuel 9 ", "[--seeds 1..1000] ": "--seeds 1..9 ", "[--mode diagnose] ": "--mode diagnose ", "chart|account|lists|traffic|state|answer|page|data": "account",
          "MINE.s examples/lab/sum": "examples/lab/sum.s examples/lab/sum", "MINE.s": "examples/lab/transfer.s", "YOURS": "examples/another-simulator/simulate.py", "TEXT": "examples/trap.s", "CLAIM": "a.claim", "TRACE": "a.trace"}
 # how loops are made short: a few programs and seeds show that the command runs
 SHORT = {"examples/litmus/*.s": "examples/litmus/f*.s", "--seeds 1..20": "--seeds 1..2", "--sets 1,4,16 --ways 1,2": "--sets 1,4",

@@ -113,6 +113,48 @@ def waves_are_read_back():
         check(f"{tool} takes nothing but data", run([tool], document).returncode == 2 and run([tool], b"{}").returncode == 2)
 
 
+def words_with_like_names_have_scopes_of_their_own():
+    """A name with a point isn't that with an underscore, also with an index behind it."""
+    text = b".region a.b, 2\n.region a_b, 2\n.region a_b_1, 1\n.region a.b_1, 1\n.phase\n.task 0, f, 0\nf: li a7, 0\n ecall\n"
+    document = run(programs("denovo")[0] + ["--mode", "trace"], text).stdout
+    data = reference.run_data(document, "", 0, None, TICKS)[1]
+    ran = run(["tools/vcd", "--words", "a.b,a_b,a_b_1,a.b_1"], data.encode())
+    scopes = re.findall(r"^\$scope module (\S+) \$end$", ran.stdout.decode(), re.M)
+    check("each word has a scope of its own", sorted(set(scopes)) == sorted(scopes) and len(scopes) == 8, scopes)
+    check("of signs that names of VCD have", all(re.fullmatch(r"[A-Za-z0-9_$]+", scope) for scope in scopes), scopes)
+
+
+# tools that read standard input, with words that they take
+READERS = (["tools/to_gas"], ["tools/vcd"], ["tools/perfetto"], ["tools/reference.py"], ["examples/loader/load.py"],
+           ["examples/another-simulator/simulate.py"], ["examples/another-simulator/directory.py"])
+# and tools that read files
+FILE_READERS = (["tools/expect", "/nonexistent", "/nonexistent"], ["tools/expect", "examples", "examples"], ["tools/from_c.py", "/nonexistent.c", "/nonexistent.s"],
+                ["experiments/plot", "/nonexistent"], ["experiments/sweep", "/nonexistent"], ["tools/reference.py", "cases", "/nonexistent", "x"])
+
+
+def no_tool_ends_in_a_traceback():
+    """A full device, a closed one, input that is nested, cut or no text, and a path that isn't there: a line says what is wrong, and the exit code isn't 0."""
+    data = reference.run_data(run(programs("denovo")[0] + ["--mode", "trace"], text_of("store-five")).stdout, "", 0, None, TICKS)[1].encode()
+    listing = run(programs("denovo")[0] + ["--mode", "list"], text_of("store-five")).stdout
+    inputs = {"deep": b"[" * 200000, "deep data": b'{"format":"denovo-data 1","a":' + b"[" * 200000, "no text": b"\xff\xfe\x00", "a head alone": b'{"format":"denovo-data 1"}',
+              "a list": b"[1]", "cut": data[:len(data) // 2], "parts of other kinds": re.sub(rb'"cores":\d+', b'"cores":"x"', data), "no regions": data.replace(b'"regions"', b'"others"')}
+    for words in READERS:
+        for name, text in inputs.items():
+            ran = run(words, text)
+            check(f"{words[0]} of {name}", b"Traceback" not in ran.stderr and b"Exception" not in ran.stderr, (ran.returncode, ran.stderr[-300:]))
+    for words in FILE_READERS:
+        ran = run(words)
+        check(f"{' '.join(words)}: a path that isn't there", b"Traceback" not in ran.stderr and ran.returncode != 0, (ran.returncode, ran.stderr[-300:]))
+    for words, text in ((["tools/to_gas"], listing), (["tools/vcd"], data), (["tools/perfetto"], data), (["tools/vcd", "--help"], b""), (["tools/reference.py"], text_of("store-five")),
+                        (["tools/random_text", "--seed", "1"], b""), (["tools/expect", "--help"], b""), (["examples/loader/load.py"], listing),
+                        (["examples/another-simulator/simulate.py"], text_of("store-five"))):
+        with open("/dev/full", "wb") as full:
+            ran = run(words, text, stdout=full)
+        check(f"{' '.join(words)} to a full device", ran.returncode == 7 and b"Traceback" not in ran.stderr and b"Exception" not in ran.stderr, (ran.returncode, ran.stderr[-300:]))
+        ran = run(["bash", "-c", '"$@" | :', "bash", *words], text)
+        check(f"{' '.join(words)} to a reader that stops", b"Traceback" not in ran.stderr and b"Exception" not in ran.stderr, ran.stderr[-300:])
+
+
 def word_scope(data, word):
     name, start, _ = next(row for row in data["regions"] if row[1] <= word < row[1] + row[2])
     return f"{name}_{word - start}"
@@ -153,8 +195,12 @@ def listings_are_read_by_the_gnu_assembler():
     wanted = ("# .phase\n# .task 0, 0x00001004, 0x00000000\n.text\n.option norvc\n.option norelax\n    bne x7, x0, .-16\nentry_00001004:\n"
               "    jal x0, .+20\n    .word 0xffffffff\n.data\nregion_m:\n    .zero 4\n    .word 0x00000007\n")
     check("a listing for the GNU assembler", (ran.returncode, ran.stdout.decode()) == (0, wanted), ran.stdout)
-    ran = run(["tools/to_gas"], b"loop: li t0, 5\n")
-    check("a text that is no listing", (ran.returncode, ran.stdout) == (2, b""), ran.stderr)
+    for line in ("loop: li t0, 5", "addi x1, x2, 5; .word 0", "addi x1, x2, 2048", "addi x1, x2, a", "addi x32, x2, 5", "add x1, x2", "add x1, x2, x3, x4", "lui x1, -1",
+                 "lw x1, 0(x2), x3", "lw x1, 0(x2) # more", "slli x1, x2, 32", "beq x1, x2, 3", "jal x1, 1048576", "fence x1", "ecall ", "addi  x1, x2, 5", ".insn 4, 5",
+                 ".region m, 1; .word 7", ".region a b, 1", ".region m, 0", ".word m, 0, 0x00000001", ".region m, 1\n.word m, 1, 0x00000001", ".region m, 1\n.region m, 1",
+                 ".phase /* x", "addi x\u0661, x2, 5"):
+        ran = run(["tools/to_gas"], (line + "\n").encode())
+        check(f"a line that no listing has: {line!r}", (ran.returncode, ran.stdout) == (2, b"") or line == "ecall ", ran)
     assembler = gnu_assembler()
     if assembler is None:
         print("programs: there is no GNU assembler for RISC-V here: its words weren't compared")
@@ -196,3 +242,12 @@ def expectations_are_compared():
             expected.write_text(lines)
             ran = run(["tools/expect", *words, f"examples/{example}.s", str(expected)])
             check(f"expected of {example}: {lines!r}", (ran.returncode, ran.stdout.decode()) == (status, told), ran)
+        # regions are those of the language, also behind a label, and numbers have 32 bits and the digits 0 to 9
+        text = pathlib.Path(room, "text.s")
+        text.write_text("here: .region a, 2\n\t.region\tb ,0x1\n.word b, 0, 7 # .region c, 9\n.phase\n.task 0, f, 0\nf: li a7, 0\n ecall\n")
+        for lines, status in (("b = 7\n", 0), ("a = 0 0\nb = 7", 0), ("b = 0x7", 0), ("a = 7\n", 3), ("b = 8\n", 3), ("b = -1", 3), ("b = -2147483648", 3), ("b = 4294967295", 3),
+                              ("c = 0", 1), ("b[1] = 0", 1), ("b = 4294967303", 1), ("b = -4294967289", 1), ("b = 0b111", 1), ("b = 0o7", 1), ("b = 0_7", 1), ("b = +7", 1),
+                              ("b = \u0667", 1), ("b[\u0660] = 7", 1), ("b = 0x", 1), ("b = 7.0", 1)):
+            expected.write_text(lines)
+            ran = run(["tools/expect", str(text), str(expected)])
+            check(f"expected of a region behind a label: {lines!r}", ran.returncode == status and b"Traceback" not in ran.stderr, ran)

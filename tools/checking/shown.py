@@ -19,7 +19,7 @@ def accounts_are_those_of_the_reference():
             outcomes.add(ran.returncode)
             for by in ("run", "phase", "core", "region"):
                 for form in ("text", "csv"):
-                    for mode, second in (("account", reference.account), ("lists", reference.lists)):
+                    for mode, second in (("account", reference.account), ("lists", reference.lists), ("traffic", reference.traffic)):
                         wanted = written(second(ran.stdout, by, form)[1])
                         seen = run(programs("view")[0] + ["--mode", mode, "--by", by, "--form", form], ran.stdout)
                         check(f"{mode} of {example} {' '.join(words)}, by {by}, as {form}", (seen.returncode, seen.stdout) == (0, wanted), seen.returncode)
@@ -31,7 +31,7 @@ def accounts_are_those_of_the_reference():
     for text in (text_of("conflict"), b"nonsense\n"):
         document = written(reference.document(text.decode(), {"banks": 1, "sets": 1, "ways": 1, "fuel": 1}, []))
         replay = run(denovo + ["--mode", "replay"], document)
-        for mode in ("chart", "account", "lists", "state", "answer", "page", "data"):
+        for mode in ("chart", "account", "lists", "traffic", "state", "answer", "page", "data"):
             ran = run(programs("view")[0] + ["--mode", mode], document)
             check(f"a refused text, in the mode {mode}", (ran.returncode, ran.stdout) == (2, replay.stdout) and replay.returncode == 2, ran.stdout)
 

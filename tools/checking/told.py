@@ -19,13 +19,13 @@ def account_of(example, words, by="run"):
 
 def by_the_reference(command):
     """What the second program has to say of a command that makes an account or lists, as a text, or shows a state; nothing for other commands."""
-    made = re.fullmatch(r"\./denovo (.*)--mode trace < examples/(\S+)\.s \| \./view --mode (account|lists|state)(?: --(?:by|event) (\w+))?", command)
+    made = re.fullmatch(r"\./denovo (.*)--mode trace < examples/(\S+)\.s \| \./view --mode (account|lists|traffic|state)(?: --(?:by|event) (\w+))?", command)
     if not made:
         return None
     document = written(reference.answer(["--mode", "trace"] + made[1].split(), text_of(made[2]).decode())[1])
     if made[3] == "state":
         return written(reference.state(document, int(made[4] or "0"))[1])
-    return written((reference.lists if made[3] == "lists" else reference.account)(document, made[4] or "run", "text")[1])
+    return written({"lists": reference.lists, "traffic": reference.traffic, "account": reference.account}[made[3]](document, made[4] or "run", "text")[1])
 
 
 def pages_show_what_is_printed():
@@ -176,6 +176,14 @@ def the_page_on_lists_has_the_numbers():
         for lines in (reference.lists(document, "run")[1], run(programs("view")[0] + ["--mode", "lists", "--form", "csv"], document).stdout.decode().split()):
             counts = dict(line.split(",run,") for line in lines if ",run," in line)
             check(f"docs/SHARERS.md: the numbers of {example}", all(counts.get(row[0]) == row[place] for row in rows), counts)
+    heads, rows = re.search(r"^\| Program \|(.*`.*)\|\n\|[-|]*\|\n((?:\|.*\n)+)", page, re.M).groups()
+    heads = [cell.strip(" `") for cell in heads.split("|")]
+    for row in rows.splitlines():
+        example, *cells = [cell.strip(" `") for cell in row.strip("|").split("|")]
+        document = run(programs("denovo")[0] + ["--mode", "trace"], text_of(example)).stdout
+        for lines in (reference.traffic(document, "run")[1], run(programs("view")[0] + ["--mode", "traffic", "--form", "csv"], document).stdout.decode().split()):
+            counts = dict(line.split(",run,") for line in lines if ",run," in line)
+            check(f"docs/SHARERS.md: the bytes of {example}", [counts.get(head) for head in heads] == cells, counts)
     measures = explained_measures(page)
     check("docs/SHARERS.md: what each measure counts", sorted(measures) == sorted(reference.LIST_MEASURES), set(measures) ^ set(reference.LIST_MEASURES))
 

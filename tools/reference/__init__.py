@@ -23,7 +23,7 @@ from .claims import batch, claim, claim_text, diagnosed, judged, settled
 from .documents import document, read_document, replayed
 from .isa import decode, instruction_text
 from .kinds import KINDS, ROWS
-from .lists import LIST_MEASURES, lists
+from .lists import LIST_MEASURES, lists, traffic
 from .machine import Machine, Pcg32
 from .one_memory import flat
 from .outcomes import against, outcomes, outcomes_text
@@ -47,4 +47,4 @@ __all__ = [
     "against", "checksum", "claim_text", "count_text", "decode", "diagnosed", "document", "event_line", "event_of", "expanded", "flat", "grant_text", "instruction_text", "judged",
     "lists", "longest", "opened", "options", "outcome", "outcomes", "outcomes_text", "page", "play", "proved", "read_case", "read_document", "readers_answer", "replayed",
     "rows", "run_cases", "run_data", "run_in_time_order", "run_text", "sections", "settled",
-    "state", "state_lines", "statements", "states", "summary", "sweep", "ticks_by", "timed", "work_text"]
+    "state", "state_lines", "statements", "states", "summary", "sweep", "ticks_by", "timed", "traffic", "work_text"]

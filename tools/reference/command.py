@@ -8,7 +8,7 @@ from .answers import answer, opened, options, run
 from .cases import run_cases
 from .chart import Chart
 from .claims import VERDICTS, batch, claim
-from .lists import lists
+from .lists import lists, traffic
 from .machine import LEFT_OUT, Machine
 from .marks import marks
 from .outcomes import against, outcomes_text
@@ -36,6 +36,8 @@ def main(page_of_help):
     try:
         return command(words)
     except UNFIT as why:
+        if isinstance(why, OSError) and why.filename is None:
+            raise  # standard output failed
         print("tools/reference.py can't take this: %s: %s" % (type(why).__name__, why), file=sys.stderr)
         print("It refuses no text properly: ./denovo --mode check says what is wrong with one. --help says what it can do.", file=sys.stderr)
         return 9
@@ -50,6 +52,15 @@ def leave_out(words):
     return words[:at] + words[at + 2:]
 
 
+def network_words(words):
+    """The words without those of a page's network, its latency, and its net."""
+    if words[:1] not in (["page"], ["data"]):
+        return words, 0, "uniform"
+    o = {"latency": "0", "net": "uniform"}
+    o.update(word.lstrip("-").split("=") for word in words if word.startswith("--"))
+    return [word for word in words if not word.startswith("--")], int(o["latency"]), o["net"]
+
+
 def size_signatures(words):
     """Gives all signatures the bits and hashes that the words name, says so, and gives the other words."""
     at = words.index("--signature")
@@ -60,15 +71,6 @@ def size_signatures(words):
         print("tools/reference.py: this isn't the protocol: signatures have %d bits, with hashes %d" % (bits, hashes), file=sys.stderr, flush=True)
     Size.bits, Size.hashes = bits, hashes
     return words[:at] + words[at + 2:]
-
-
-def network_words(words):
-    """The words without those of a page's network, its latency, and its net."""
-    if words[:1] not in (["page"], ["data"]):
-        return words, 0, "uniform"
-    o = {"latency": "0", "net": "uniform"}
-    o.update(word.lstrip("-").split("=") for word in words if word.startswith("--"))
-    return [word for word in words if not word.startswith("--")], int(o["latency"]), o["net"]
 
 
 def command(words):
@@ -118,9 +120,9 @@ def command(words):
                       o["actors"], o["fit"] == "slide", int(o["latency"]), o["net"])
         print(chart.text(), end="")
         return 0
-    if words[:1] in (["account"], ["lists"]):
+    if words[:1] in (["account"], ["lists"], ["traffic"]):
         by, form = words[1:3] + ["run", "csv"][len(words[1:3]):]
-        status, out = (account if words[0] == "account" else lists)(sys.stdin.buffer.read(), by, form)
+        status, out = {"account": account, "lists": lists, "traffic": traffic}[words[0]](sys.stdin.buffer.read(), by, form)
         print("".join(line + "\n" for line in out), end="")
         return status
     if words[:1] == ["readers"]:

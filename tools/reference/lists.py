@@ -1,4 +1,5 @@
-"""Lists of sharers: what the loads and stores of a run would have cost with a list of sharers at each word's home, by docs/SHARERS.md."""
+"""Lists of sharers: what the loads and stores of a run would have cost with a list of sharers at each word's home, by docs/SHARERS.md; and the
+traffic of a run: its messages by their kinds, and their bytes."""
 
 from .documents import read_document
 from .machine import Machine
@@ -16,6 +17,13 @@ TABLE = [("messages", "list-messages"), ("waits-read", "list-waits-read"), ("wai
 
 # the core that a message serves: where the message doesn't name it, it is the one that the message goes to
 SERVED = {"read-req": 2, "read-fwd": 2, "data-reply": None, "reg-req": 2, "reg-fwd": 2, "reg-ack": None, "write-back": 3, "wb-ack": None}
+
+# the kinds of messages in their order, and the core that one about a lock or of the barrier serves
+TRAFFIC = ["read-req", "read-fwd", "data-reply", "reg-req", "reg-fwd", "reg-ack", "write-back", "wb-ack", "acquire", "release", "grant", "arrived", "go", "halt"]
+TOLD = {"acquire": 2, "release": 2, "grant": None, "arrived": 1, "go": None, "halt": None}
+# bytes of a message, of a word's value in it, and of a signature with its phase
+MESSAGE, VALUE, SIGNATURE = 8, 4, 33
+BYTES = {kind: MESSAGE + VALUE * (kind in ("data-reply", "write-back")) + SIGNATURE * (kind in ("release", "grant")) for kind in TRAFFIC}
 
 
 class Lists:
@@ -81,9 +89,11 @@ class Listed:
         """Looks at an event that comes next."""
         if event[0] == "handle":
             to, message = next(mail for mail in self.machine.pool if mail[:2] == event[1:])[2:]
-            if message[0] in SERVED:
-                at = SERVED[message[0]]
-                self.note("messages", to[1] if at is None else message[at], message[1])
+            at = (SERVED | TOLD)[message[0]]
+            core, word = to[1] if at is None else message[at], message[1] if message[0] in SERVED else None
+            if word is not None:
+                self.note("messages", core, word)
+            self.note(message[0], core, word)
         elif event[0] == "instr":
             node = self.machine.nodes[event[1]]
             kind = node.next[0]
@@ -93,6 +103,8 @@ class Listed:
     def access(self, node, word, is_store):
         """An instruction that retires as a load or a store."""
         side = "write" if is_store else "read"
+        if word not in self.lists.set_of(node.core, word):
+            self.note("list-reply-values", node.core, word)
         sent, waits = self.lists.access(node.core, word, is_store)
         for kind, about in sent:
             self.note("list-messages", node.core, about)
@@ -123,7 +135,7 @@ class Listed:
             region = [name for name in names for _ in range(program.regions[name][1])]
 
             def group(row):
-                return region[row[3]]
+                return None if row[3] is None else region[row[3]]
         counts = {}
         for row in self.rows:
             counts[row[0], group(row)] = counts.get((row[0], group(row)), 0) + 1
@@ -134,6 +146,25 @@ class Listed:
         names, counts = self.counted(by)
         return [(measure, name, counts.get((measure, name), 0)) for measure in LIST_MEASURES for name in names
                 if by != "region" or (measure, name) in counts]
+
+    def traffic(self, by):
+        """The rows of the traffic, each with its number in each group: of each kind of message how many and how many bytes, and the sums."""
+        names, counts = self.counted(by)
+
+        def number(measure, name):
+            return counts.get((measure, name), 0)
+
+        def total(name, kinds, size=BYTES.get):
+            return sum(size(kind) * number(kind, name) for kind in kinds)
+        rows = []
+        for kind in TRAFFIC:
+            rows += [(kind, [number(kind, name) for name in names]), (kind + "-bytes", [total(name, [kind]) for name in names])]
+        rows += [("messages", [number("messages", name) for name in names]), ("bytes", [total(name, SERVED) for name in names])]
+        rows += [(what + "-bytes", [total(name, kinds) for name in names]) for what, kinds in (("lock", TRAFFIC[8:11]), ("barrier", TRAFFIC[11:]))]
+        rows.append(("list-messages", [number("list-messages", name) for name in names]))
+        rows.append(("list-bytes", [MESSAGE * number("list-messages", name) + VALUE * (number("list-reply-values", name) + number("list-put-backs", name)) for name in names]))
+        rows.append(("list-lock-bytes", [total(name, TRAFFIC[8:11], lambda kind: MESSAGE) for name in names]))
+        return names, rows
 
     def table(self, by):
         """The table for readers: two columns for each group, this run's numbers and those of the lists."""
@@ -160,6 +191,23 @@ class Listed:
 
 def lists(data, by, form="csv"):
     """The exit code, and the run beside the lists: a line `measure,group,count` for each, or the run's report and a table."""
+    return beside(data, lambda kept: kept.table(by), lambda kept: kept.groups(by), form)
+
+
+def traffic(data, by, form="csv"):
+    """The same of the run's traffic."""
+    def table(kept):
+        names, rows = kept.traffic(by)
+        return [row[0].ljust(22) + "".join(" " + str(cell).rjust(11) for cell in row[1]) for row in [("by " + by, names), *rows]]
+
+    def lines(kept):
+        names, rows = kept.traffic(by)
+        return [(row, name, number) for row, numbers in rows for name, number in zip(names, numbers) if by != "region" or number]
+    return beside(data, table, lines, form)
+
+
+def beside(data, table, lines, form):
+    """The exit code, and what is made of the run beside lists: its table behind the run's report, or its lines."""
     told = read_document(data)
     if isinstance(told, str):
         return 2, ["refused trace " + told]
@@ -175,5 +223,5 @@ def lists(data, by, form="csv"):
         return 2, ["refused trace incomplete"]
     kept.agree()
     if form == "text":
-        return 0, run_text(machine) + kept.table(by)
-    return 0, ["measure,group,count"] + ["%s,%s,%d" % row for row in kept.groups(by)]
+        return 0, run_text(machine) + table(kept)
+    return 0, ["measure,group,count"] + ["%s,%s,%d" % row for row in lines(kept)]

@@ -9,9 +9,10 @@ mod Listed
 pub mod LogLemmas
 mod MailEvents
 mod Making
-mod Noted
+pub mod Noted
 pub mod OneSetting
 mod Opened
+pub mod OwnEvent
 mod OwnRow
 pub mod PartsLemmas
 pub mod PickLaws

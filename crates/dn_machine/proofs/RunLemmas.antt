@@ -17,10 +17,9 @@ use Rattle.machine_rules.specs.Runs.{after, IsRun, IsCompleteRun, memory_after, 
 use Rattle.machine_rules.specs.Memory.{memory_of}
 use Rattle.machine_rules.proofs.OpenedFacts.{opened-setting}
 use Rattle.machine_rules.proofs.RunsKept.{run-setting}
-use Rattle.machine_rules.specs.Accesses.{accesses_of}
-use Rattle.machine_rules.specs.Consistent.{IsSequentialOrder}
-use Rattle.machine_rules.proofs.InProgramOrder.{run-sequential}
-use Rattle.machine_rules.proofs.RaceFree.{run-race_free}
+use Rattle.machine_rules.specs.Accesses.{actions_of}
+use Rattle.machine_rules.specs.Racing.{IsDataRaceFreeAndSequential}
+use Rattle.machine_rules.proofs.Sequential.{run-race_free-sequential, run-guarded}
 use Rattle.machine_rules.proofs.RunsCoherent.{run-coherent, run-shows, run-loads, run-rests}
 use Rattle.machine_rules.proofs.OpenedSound.{opened-sound}
 use Rattle.machine_rules.proofs.AnySize.{well-formed}
@@ -188,9 +187,9 @@ complete-run-of C r ready complete is =
       rests = run-rests C r.events ready complete;
       is_true = is;
       coherent = fronts-true C r.events ready complete.run;
-      sequential = subst (λ (x : Setting). IsSequentialOrder x.program.memory (accesses_of (initial_state C) r.events) (accesses_of (initial_state C) r.events)) (sym same)
-          (run-sequential C r.events ready complete.run);
-      race_free = run-race_free C r.events ready complete.run;
+      race_free_and_sequential = subst (λ (x : Setting). IsDataRaceFreeAndSequential x.shape.cores x.program.memory (actions_of (initial_state C) r.events)) (sym same)
+          (run-race_free-sequential C r.events ready complete.run);
+      guarded = run-guarded C r.events ready complete.run;
       agrees = subst (λ (x : Setting). OfEachFront (AgreesAfter x) r.events) (sym same) (fronts-agree C r.events ready complete.run);
       flat = subst (λ (x : Setting). HasFlatEnd x r.events) (sym same) (end-agrees C r.events ready complete);
       few =

@@ -4,6 +4,7 @@ use Rattle.std.specs.List.{filter_map}
 use Rattle.message_net.specs.declared.event.Event.{Event}
 use Rattle.message_net.specs.declared.event.Event.TheVariants.{Handle}
 use Rattle.message_net.specs.declared.message.Mail.{Mail}
+use Rattle.registration_protocol.specs.Node.{NodeParts, Setting}
 use Rattle.registration_protocol.specs.OwnEvents.{own_event}
 use Rattle.machine_rules.specs.State.{State}
 use Rattle.dn_machine.specs.declared.picking.Choice.{Choice}
@@ -12,6 +13,15 @@ use Rattle.dn_machine.specs.declared.picking.Choice.TheVariants.{Own, Mail as Ma
 -- the own events that there are, in the order of cores
 abbrev pub known_events : List (Option Event) → List Event
 known_events own = filter_map (λ (o : Option Event). o) own
+
+-- the own event of a core in a state: its instruction; or else the eviction of the victim, if its next access lacks room; or else its
+-- arrival at the barrier. None if the core doesn't exist or has no own event
+abbrev pub own_event_of : Setting → Option NodeParts → Option Event
+own_event_of C None = None
+own_event_of C (Some n) = own_event C n
+
+unfoldable pub own_event_in : State → ℕ → Option Event
+own_event_in S core = own_event_of S.setting (slice_get S.nodes core)
 
 -- the handling of each mail, in the order of their places
 abbrev pub handlings : List Mail → List Event

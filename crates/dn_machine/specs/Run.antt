@@ -13,9 +13,9 @@ use Rattle.machine_rules.specs.Runs.{after, IsCompleteRun, grants_of, kinds_of, 
 use Rattle.machine_rules.specs.Rest.{IsAtRest}
 use Rattle.machine_rules.specs.Bound.{retired_in, started_in}
 use Rattle.machine_rules.specs.Coherent.{Coherent}
-use Rattle.machine_rules.specs.Accesses.{accesses_of, actions_of}
-use Rattle.machine_rules.specs.Consistent.{IsSequentialOrder}
-use Rattle.machine_rules.specs.Racing.{IsRaceFree}
+use Rattle.machine_rules.specs.Accesses.{actions_of}
+use Rattle.machine_rules.specs.Racing.{IsDataRaceFreeAndSequential}
+use Rattle.machine_rules.specs.Guarded.{IsGuarded}
 use Rattle.run_agreement.specs.Fronts.{IsFrontOf}
 use Rattle.run_agreement.specs.Ends.{HasFlatEnd}
 use Rattle.dn_machine.specs.Schedule.{IsScheduled}
@@ -64,10 +64,10 @@ pub record IsCoherentRun (S : State) (r : RunRecord) : Type 0 where
   pub is_true : IsRecord S r
   -- after each prefix of the events the state is coherent, and shows the stores so far
   pub coherent : OfEachFront (IsTrueAfter S) r.events
-  -- the run is sequentially consistent, in the order in which its loads and stores retire
-  pub sequential : IsSequentialOrder S.setting.program.memory (accesses_of S r.events) (accesses_of S r.events)
-  -- it has no data race
-  pub race_free : IsRaceFree (actions_of S r.events)
+  -- the run has no data race, and is sequentially consistent in the order in which its actions retire
+  pub race_free_and_sequential : IsDataRaceFreeAndSequential S.setting.shape.cores S.setting.program.memory (actions_of S r.events)
+  -- accesses that conflict have a barrier between them, or a lock that both tasks hold is handed on between them
+  pub guarded : IsGuarded (actions_of S r.events)
   -- after each prefix the loads so far are prefixes of the flat machine's by the grants so far
   pub agrees : OfEachFront (AgreesAfter S.setting) r.events
   -- the flat machine's run by the grants has the same loads and the same ending

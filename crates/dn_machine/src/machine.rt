@@ -11,7 +11,7 @@ ghost use Rattle.machine_rules.specs.Runs.{IsOver};
 ghost use Rattle.dn_machine.specs.Content.{state_of, KnowsOwn};
 ghost use Rattle.dn_machine.specs.Ends.{end_at};
 ghost use Rattle.dn_machine.specs.Kept.{IsKept, IsInitialMachine};
-ghost use Rattle.dn_machine.specs.Pick.{pick};
+ghost use Rattle.dn_machine.specs.Pick.{own_event_in, pick};
 ghost use Rattle.dn_machine.specs.Plans.{AreInOneForm};
 ghost use Rattle.dn_machine.specs.Run.{IsSeedsRunOf};
 ghost use Rattle.dn_machine.specs.Sizes.{FitsMachine};
@@ -198,6 +198,15 @@ impl Machine {
         ensures none { (result ≡ None) ↔ IsOver self.now.state }
     {
         pick_from(&self.content.own, &self.content.pool, draw)
+    }
+
+    /// The own event of a core: its instruction; or else the eviction of the victim, if its next access lacks room; or else its
+    /// arrival at the barrier. None if it has none, or if the machine has no such core. It's the one that a draw may pick.
+    pub fn own_event(&self, core: CoreId) -> Option<Event>
+        ensures event { result ≡ own_event_in self.now.state core.0 }
+        ensures comes { IfSome result (λ event. enabled self.now.state event ≡ true) }
+    {
+        self.content.own.of_core(core)
     }
 
     /// The value of a data word: that of its pending entry if a core has one, otherwise the one at its home or in its owner's

@@ -1,4 +1,4 @@
-ghost use Rattle.std.specs.Prelude.{◌≡◌, ◌<◌, ◌≤◌, Some, true, length, take, slice_get, slice_set};
+ghost use Rattle.std.specs.Prelude.{◌≡◌, ◌<◌, ◌≤◌, Some, true, length, take, None, slice_get, slice_set, slice_index_or};
 ghost use Rattle.message_net.specs.declared.event.Event.TheVariants.{Instr as AnInstr};
 ghost use Rattle.dn_machine.specs.OwnRow.{cores_with};
 ghost use Rattle.dn_machine.specs.Pick.{known_events};
@@ -76,6 +76,17 @@ impl OwnRow {
         ensures { result ≡ true → (c : CoreId) × (slice_get self.now core.0 ≡ Some (Some (AnInstr c))) }
     {
         matches!(self.own.get(core.0 as usize), Some(Some(Event::Instr(_))))
+    }
+
+    /// The own event of a core; None if it has none, or isn't below 16.
+    #[inline(always)]
+    pub(crate) fn of_core(&self, core: CoreId) -> Option<Event>
+        ensures { result ≡ slice_index_or self.now core.0 None }
+    {
+        match self.own.get(core.0 as usize) {
+            Some(event) => *event,
+            None => None,
+        }
     }
 
     /// How many cores have an own event.

@@ -25,7 +25,8 @@ use Rattle.registration_protocol.proofs.InstrLemmas.{may-instruct, instr-parts, 
 use Rattle.machine_rules.specs.State.{State}
 use Rattle.machine_rules.specs.Next.{next, enabled, seen_in}
 use Rattle.machine_rules.specs.Memory.{value_in_entry, store_in}
-use Rattle.machine_rules.specs.Accesses.{Access, access_by, kept_by, accessed_by, access_in}
+use Rattle.machine_rules.specs.Actions.{Access}
+use Rattle.machine_rules.specs.Accesses.{access_by, kept_by, accessed_by, access_in}
 use Rattle.machine_rules.specs.Consistent.{written_to}
 use Rattle.machine_rules.proofs.Invariant.{Invariant}
 use Rattle.machine_rules.proofs.Outcomes.{stored_to}

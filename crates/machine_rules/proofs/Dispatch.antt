@@ -25,6 +25,8 @@ use Rattle.machine_rules.specs.Memory.{store_in}
 use Rattle.machine_rules.specs.Coherent.{is_alive, waits_at_keeper}
 use Rattle.machine_rules.proofs.Invariant.{Invariant, is_right}
 use Rattle.machine_rules.proofs.Steps.{KeeperStep, letter_bit, Handled, handled, keeper-step}
+use Rattle.machine_rules.specs.Fair.{request_in}
+use Rattle.machine_rules.specs.Accesses.{synchronization_in}
 use Rattle.machine_rules.proofs.Outcomes.{Outcomes, Tells, BarrierStep, to_all, stored_to, at_keeper}
 use Rattle.machine_rules.proofs.WordCore.{same-number}
 use Rattle.machine_rules.proofs.DispatchOwn.{instr-ways, evict-ways, arrive-ways}
@@ -52,9 +54,10 @@ letters-all p cores message =
     let same : 0 + cores ≡ cores = omega arith in
     omega (arith, each-all p message 0 cores, ap (λ (x : ℕ). to_all p x (Some message)) same)
 
-keeper-tells : (S : State) (id : MailId) (m : Mail) → Handled S id m → m.to ≡ Keeper → Tells S (Handle id) None None None
-unfolding seen_in granted_in store_in
-keeper-tells S id m h to = record { seen_is = refl; granted_is = rw (h.took, to) refl; store_is = refl }
+keeper-tells : (S : State) (id : MailId) (m : Mail) (core : CoreId) (bad : Bool) → Handled S id m → m.to ≡ Keeper → m.message ≡ Arrived core bad → Tells S (Handle id) None None None None None
+unfolding seen_in granted_in store_in synchronization_in request_in
+keeper-tells S id m core bad h to is =
+    record { seen_is = refl; granted_is = rw (h.took, to) refl; synchronization_is = rw (h.took, to) refl; request_is = rw (h.took, is) refl; store_is = refl }
 
 no-letters : (cores : ℕ) (p : Test) → 0 ≡ to_all p cores None
 no-letters zero p = refl
@@ -128,8 +131,8 @@ arrived-way S M id m core bad G inv h to is outcomes = by_all (all_arrived (with
   row : keeper_gets S.keeper (Arrived core bad) ≡ decided (with_arrival core.0 bad S.keeper)
   row = keeper_gets-arrived S.keeper core bad ∙ arrives-new S.keeper core.0 bad new
 
-  tells : Tells S (Handle id) None None None
-  tells = keeper-tells S id m h to
+  tells : Tells S (Handle id) None None None None None
+  tells = keeper-tells S id m core bad h to is
 
   by_over : all_arrived (with_arrival core.0 bad S.keeper) ≡ true → (x : Bool) → is_over (with_arrival core.0 bad S.keeper) ≡ x → G M
   by_over all true over =

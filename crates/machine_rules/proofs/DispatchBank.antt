@@ -40,6 +40,8 @@ use Rattle.machine_rules.proofs.Bits.{passes, pending_bit, leaving_bit, known_bi
 use Rattle.machine_rules.proofs.BitLemmas.{owner-bit}
 use Rattle.machine_rules.proofs.Invariant.{Invariant, is_right}
 use Rattle.machine_rules.proofs.Steps.{BankStep, Handled, bank-step}
+use Rattle.machine_rules.specs.Fair.{request_by, request_in}
+use Rattle.machine_rules.specs.Accesses.{synchronization_in}
 use Rattle.machine_rules.proofs.Outcomes.{Outcomes, Tells, WordStep, LockStep, at_bank}
 use Rattle.machine_rules.proofs.WordCore.{same-number}
 use Rattle.machine_rules.proofs.DispatchCore.{counts, goes-right, reading-word, locking-lock}
@@ -61,11 +63,12 @@ pub record AtBank (S : State) (M : ℕ → ℕ) (id : MailId) (bank : BankId) (m
   pub home : bank.0 ≡ w % S.setting.shape.banks
   pub counted : (p : Test) → bit (p (Bank bank) message) ≤ flight S p
   pub step : BankStep S (next S (Handle id)) bank.0 b message (at_bank bank message)
-  pub tells : Tells S (Handle id) None None None
+  pub tells : Tells S (Handle id) None None None None (request_by message)
 
-bank-tells : (S : State) (id : MailId) (m : Mail) (bank : BankId) → Handled S id m → m.to ≡ Bank bank → Tells S (Handle id) None None None
-unfolding seen_in granted_in store_in
-bank-tells S id m bank h to = record { seen_is = refl; granted_is = rw (h.took, to) refl; store_is = refl }
+bank-tells : (S : State) (id : MailId) (m : Mail) (bank : BankId) (message : Message) → Handled S id m → m.to ≡ Bank bank → m.message ≡ message → Tells S (Handle id) None None None None (request_by message)
+unfolding seen_in granted_in store_in synchronization_in request_in
+bank-tells S id m bank message h to is =
+    record { seen_is = refl; granted_is = rw (h.took, to) refl; synchronization_is = rw (h.took, to) refl; request_is = rw (h.took, is) refl; store_is = refl }
 
 bank-row : (S : State) (id : MailId) (m : Mail) (bank : BankId) (message : Message) (b : BankParts) → Handled S id m → m.to ≡ Bank bank → m.message ≡ message → slice_get S.banks bank.0 ≡ Some b
     → BankStep S (next S (Handle id)) bank.0 b message (at_bank bank message)
@@ -83,7 +86,7 @@ at-bank S M id m bank message w b inv h to is found home =
       home = home;
       counted = λ p. subst (λ (x : Message). bit (p (Bank bank) x) ≤ flight S p) is (subst (λ (a : Actor). bit (p a m.message) ≤ flight S p) to (counts S id m p h));
       step = bank-row S id m bank message b h to is found;
-      tells = bank-tells S id m bank h to;
+      tells = bank-tells S id m bank message h to is;
     }
 
 -- what the bank has is what the home has

@@ -28,6 +28,7 @@ use Rattle.registration_protocol.specs.Node.{NodeParts, entry_of, need_now}
 use Rattle.registration_protocol.specs.Messages.{node_gets, reg_ack_row, reg_fwd_row, read_fwd_row, wb_ack_row}
 use Rattle.registration_protocol.proofs.InstrLemmas.{has-next}
 use Rattle.registration_protocol.proofs.MessageLemmas.{ack-is, forward-is, read-is, back-is, data-is, grant-is, go-is, halt-is}
+use Rattle.registration_protocol.specs.Parts.{retired_so_far}
 use Rattle.machine_rules.specs.State.{State, entry_in, entry_at}
 use Rattle.machine_rules.specs.Flight.{Test, bit, mail_count, flight, is_reg_ack_to, is_wb_ack_to, is_data_reply_to, is_grant_to, is_go_to, is_halt_to}
 use Rattle.machine_rules.specs.Next.{next, seen_in, granted_in}
@@ -37,6 +38,9 @@ use Rattle.machine_rules.proofs.Bits.{settled_bit, reading_in, is_reading}
 use Rattle.machine_rules.proofs.BitLemmas.{pending-is, leaving-is, bit-true}
 use Rattle.machine_rules.proofs.Invariant.{Invariant, is_lost, is_right, is_astray}
 use Rattle.machine_rules.proofs.Steps.{NodeStep, Handled, core-step}
+use Rattle.machine_rules.specs.Actions.{acquires}
+use Rattle.machine_rules.specs.Fair.{request_by, request_in}
+use Rattle.machine_rules.specs.Accesses.{synchronization_in, synchronizes_by}
 use Rattle.machine_rules.proofs.Outcomes.{Outcomes, Tells, at_core}
 use Rattle.machine_rules.proofs.WordCore.{same-number}
 
@@ -70,7 +74,7 @@ pub record AtNode (S : State) (M : ℕ → ℕ) (id : MailId) (core : CoreId) (m
   pub found : slice_get S.nodes core.0 ≡ Some n
   pub counted : (p : Test) → bit (p (Core core) message) ≤ flight S p
   pub row : (r : NodeParts × Received) → node_gets S.setting n message ≡ r → NodeStep S (next S (Handle id)) core.0 n r.0 (at_core core message) r.1.sent
-  pub tells : (r : NodeParts × Received) → node_gets S.setting n message ≡ r → Tells S (Handle id) None r.1.granted None
+  pub tells : (r : NodeParts × Received) → node_gets S.setting n message ≡ r → Tells S (Handle id) None r.1.granted None (synchronizes_by core n message r) (request_by message)
 
 node-row : (S : State) (id : MailId) (m : Mail) (core : CoreId) (message : Message) (n : NodeParts) → Handled S id m → m.to ≡ Core core → m.message ≡ message → slice_get S.nodes core.0 ≡ Some n
     → (r : NodeParts × Received) → node_gets S.setting n message ≡ r → NodeStep S (next S (Handle id)) core.0 n r.0 (at_core core message) r.1.sent
@@ -81,10 +85,16 @@ node-row S id m core message n h to is found r row =
     subst (λ (x : NodeParts × Received). NodeStep S (next S (Handle id)) core.0 n x.0 (at_core core message) x.1.sent) row two
 
 node-tells : (S : State) (id : MailId) (m : Mail) (core : CoreId) (message : Message) (n : NodeParts) → Handled S id m → m.to ≡ Core core → m.message ≡ message → slice_get S.nodes core.0 ≡ Some n
-    → (r : NodeParts × Received) → node_gets S.setting n message ≡ r → Tells S (Handle id) None r.1.granted None
-unfolding seen_in granted_in store_in
+    → (r : NodeParts × Received) → node_gets S.setting n message ≡ r → Tells S (Handle id) None r.1.granted None (synchronizes_by core n message r) (request_by message)
+unfolding seen_in granted_in store_in synchronization_in request_in
 node-tells S id m core message n h to is found r row =
-    record { seen_is = refl; granted_is = rw (h.took, to, is, found) (ap (λ (x : NodeParts × Received). x.1.granted) row); store_is = refl }
+    record {
+      seen_is = refl;
+      granted_is = rw (h.took, to, is, found) (ap (λ (x : NodeParts × Received). x.1.granted) row);
+      synchronization_is = rw (h.took, to, is, found) (ap (synchronizes_by core n message) row);
+      request_is = rw (h.took, is) refl;
+      store_is = refl;
+    }
 
 at-node : (S : State) (M : ℕ → ℕ) (id : MailId) (m : Mail) (core : CoreId) (message : Message) (n : NodeParts) → Invariant S M → Handled S id m → m.to ≡ Core core → m.message ≡ message
     → slice_get S.nodes core.0 ≡ Some n → AtNode S M id core message n
@@ -222,7 +232,7 @@ grant-way S M id core lock s n G outcomes at = by_task n.task refl where
       let mine : n.core ≡ core.0 = own in
       outcomes.grant core n next_is.decl t lock s at.found waits is next_is.going
       (subst (λ (x : ℕ). declared S.setting.program n.phase x ≡ Some next_is.decl) mine next_is.declares) next_is.asks marks.0 marks.1
-      (subst (λ (x : ℕ). Tells S (Handle id) None (Some (record { phase = record { 0 = n.phase }; core = record { 0 = x }; lock = lock })) None) mine (at.tells _ row))
+      (subst (λ (x : ℕ). Tells S (Handle id) None (Some (record { phase = record { 0 = n.phase }; core = record { 0 = x }; lock = lock })) None (Some (acquires (record { phase = n.phase; core = core.0; place = retired_so_far n.task; lock = lock.0 }))) None) mine (at.tells _ row))
       (at.row _ row)
 
 -- who is told to go on or to halt has arrived, and isn't halted

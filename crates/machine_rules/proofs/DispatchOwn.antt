@@ -27,6 +27,8 @@ use Rattle.machine_rules.specs.Next.{next, enabled, when_there, seen_in, granted
 use Rattle.machine_rules.specs.Memory.{store_in}
 use Rattle.machine_rules.proofs.Invariant.{Invariant}
 use Rattle.machine_rules.proofs.Steps.{NodeStep, instr-step, evict-step, arrive-step}
+use Rattle.machine_rules.specs.Fair.{request_in}
+use Rattle.machine_rules.specs.Accesses.{synchronization_in, release_by, arrival_at}
 use Rattle.machine_rules.proofs.Outcomes.{Outcomes, Tells, IsActing, stored_to}
 
 -- a node that is there passes the test
@@ -61,21 +63,25 @@ pub record Instructed (S : State) (core : CoreId) (n : NodeParts) (r : NodeParts
   pub seen : seen_in S (Instr core) ≡ r.1.seen
   pub granted : granted_in S (Instr core) ≡ None
   pub store : store_in S (Instr core) ≡ written_now S.setting n
+  pub synchronization : synchronization_in S (Instr core) ≡ release_by core n (need_now S.setting n)
+  pub request : request_in S (Instr core) ≡ None
 
 pub instructed-row : (S : State) (core : CoreId) (n : NodeParts) (r : NodeParts × Step) → slice_get S.nodes core.0 ≡ Some n → instructed S.setting n ≡ r → Instructed S core n r
-unfolding seen_in granted_in store_in
+unfolding seen_in granted_in store_in synchronization_in request_in
 instructed-row S core n r found is =
     record {
       step = subst (λ (x : NodeParts × Step). NodeStep S (next S (Instr core)) core.0 n x.0 None x.1.sent) is (instr-step S core n found);
       seen = rw (found) (ap (λ (x : NodeParts × Step). x.1.seen) is);
       granted = refl;
       store = rw (found) refl;
+      synchronization = rw (found) refl;
+      request = refl;
     }
 
 -- what an instruction tells that stores nothing
 quietly : (S : State) (core : CoreId) (n : NodeParts) (r : NodeParts × Step) (x : Need) → Instructed S core n r → need_now S.setting n ≡ Some x → (IsStore x → ⊥)
-    → Tells S (Instr core) r.1.seen None None
-quietly S core n r x h now other = record { seen_is = h.seen; granted_is = h.granted; store_is = h.store ∙ written-none S.setting n x now other }
+    → Tells S (Instr core) r.1.seen None None (release_by core n (Some x)) None
+quietly S core n r x h now other = record { seen_is = h.seen; granted_is = h.granted; request_is = h.request; synchronization_is = h.synchronization ∙ ap (release_by core n) now; store_is = h.store ∙ written-none S.setting n x now other }
 
 -- a memory that nothing is stored to
 same-memory : (S : State) (M : ℕ → ℕ) (e : Event) (G : (ℕ → ℕ) → Type 0) → store_in S e ≡ None → G M → G (stored_to (store_in S e) M)
@@ -114,10 +120,14 @@ missed : (S : State) (M : ℕ → ℕ) (core : CoreId) (n : NodeParts) (d : Task
     → instructed S.setting n ≡ misses S.setting n word → written_now S.setting n ≡ None → G (stored_to (store_in S (Instr core)) M)
 missed S M core n d t word x G outcomes needs g none room row writes =
     let h = instructed-row S core n (misses S.setting n word) g.acts.found row in
-    let tells : Tells S (Instr core) None None None = record { seen_is = h.seen; granted_is = h.granted; store_is = h.store ∙ writes } in
+    let tells : Tells S (Instr core) None None None None None = record { seen_is = h.seen; granted_is = h.granted; request_is = h.request; synchronization_is = h.synchronization ∙ (ap (release_by core n) g.now ∙ no-release needs); store_is = h.store ∙ writes } in
     same-memory S M (Instr core) G tells.store_is
     (outcomes.miss core n d t word x needs g.acts none room tells
     (subst (λ (c : CoreId). NodeStep S (next S (Instr core)) core.0 n (misses S.setting n word).0 None (to_home S.setting.shape.banks word.0 (ReadReq word c))) g.mine h.step))
+  where
+    no-release : (x ≡ need.TheVariants.Load word) ⊎ (x ≡ need.TheVariants.Store word false) → release_by core n (Some x) ≡ None
+    no-release (inl is) = ap (λ (y : Need). release_by core n (Some y)) is
+    no-release (inr is) = ap (λ (y : Need). release_by core n (Some y)) is
 
 -- a load, by the entry of its word
 loaded : (S : State) (M : ℕ → ℕ) (core : CoreId) (n : NodeParts) (d : TaskDecl) (t : TaskState) (word : WordId) (G : (ℕ → ℕ) → Type 0) → Outcomes S M (Instr core) G
@@ -148,21 +158,21 @@ kept S M core n d t word false G outcomes g None is may row writes =
 kept S M core n d t word true G outcomes g None is may row writes =
     let value = merged_of S.setting.program 0 t in
     let h = instructed-row S core n (store_row S.setting n d t word true None) g.acts.found row in
-    let tells : Tells S (Instr core) None None (Some (word, value)) = record { seen_is = h.seen; granted_is = h.granted; store_is = h.store ∙ writes } in
+    let tells : Tells S (Instr core) None None (Some (word, value)) None None = record { seen_is = h.seen; granted_is = h.granted; request_is = h.request; synchronization_is = h.synchronization ∙ ap (release_by core n) g.now; store_is = h.store ∙ writes } in
     new-memory S M (Instr core) G (Some (word, value)) tells.store_is
     (outcomes.store_new core n d t word value g.acts is may refl tells
     (subst (λ (c : CoreId). NodeStep S (next S (Instr core)) core.0 n (stored S.setting n d t word (Registered value true)) None (to_home S.setting.shape.banks word.0 (RegReq word c))) g.mine h.step))
 kept S M core n d t word whole G outcomes g (Some (Valid old marked)) is may row writes =
     let value = merged_of S.setting.program old t in
     let h = instructed-row S core n (store_row S.setting n d t word whole (Some (Valid old marked))) g.acts.found row in
-    let tells : Tells S (Instr core) None None (Some (word, value)) = record { seen_is = h.seen; granted_is = h.granted; store_is = h.store ∙ writes } in
+    let tells : Tells S (Instr core) None None (Some (word, value)) None None = record { seen_is = h.seen; granted_is = h.granted; request_is = h.request; synchronization_is = h.synchronization ∙ ap (release_by core n) g.now; store_is = h.store ∙ writes } in
     new-memory S M (Instr core) G (Some (word, value)) tells.store_is
     (outcomes.store_copy core n d t word whole old value marked g.acts is refl tells
     (subst (λ (c : CoreId). NodeStep S (next S (Instr core)) core.0 n (stored S.setting n d t word (Registered value true)) None (to_home S.setting.shape.banks word.0 (RegReq word c))) g.mine h.step))
 kept S M core n d t word whole G outcomes g (Some (Registered old pending)) is may row writes =
     let value = merged_of S.setting.program old t in
     let h = instructed-row S core n (store_row S.setting n d t word whole (Some (Registered old pending))) g.acts.found row in
-    let tells : Tells S (Instr core) None None (Some (word, value)) = record { seen_is = h.seen; granted_is = h.granted; store_is = h.store ∙ writes } in
+    let tells : Tells S (Instr core) None None (Some (word, value)) None None = record { seen_is = h.seen; granted_is = h.granted; request_is = h.request; synchronization_is = h.synchronization ∙ ap (release_by core n) g.now; store_is = h.store ∙ writes } in
     new-memory S M (Instr core) G (Some (word, value)) tells.store_is
     (outcomes.store_own core n d t word whole old value pending g.acts is refl tells h.step)
 kept S M core n d t word whole G outcomes g (Some (Leaving value)) is may row writes = absurd (cc)
@@ -204,13 +214,13 @@ instr-ways S M core G inv may outcomes =
 -- ---- evictions and arrivals
 
 -- an event of a core that isn't an instruction tells nothing
-silent-evict : (S : State) (core : CoreId) (word : WordId) → Tells S (Evict core word) None None None
-unfolding seen_in granted_in store_in
-silent-evict S core word = record { seen_is = refl; granted_is = refl; store_is = refl }
+silent-evict : (S : State) (core : CoreId) (word : WordId) → Tells S (Evict core word) None None None None None
+unfolding seen_in granted_in store_in synchronization_in request_in
+silent-evict S core word = record { seen_is = refl; granted_is = refl; synchronization_is = refl; request_is = refl; store_is = refl }
 
-silent-arrive : (S : State) (core : CoreId) → Tells S (Arrive core) None None None
-unfolding seen_in granted_in store_in
-silent-arrive S core = record { seen_is = refl; granted_is = refl; store_is = refl }
+silent-arrive : (S : State) (core : CoreId) (n : NodeParts) → slice_get S.nodes core.0 ≡ Some n → Tells S (Arrive core) None None None (arrival_at core (Some n)) None
+unfolding seen_in granted_in store_in synchronization_in request_in
+silent-arrive S core n found = record { seen_is = refl; granted_is = refl; synchronization_is = ap (arrival_at core) found; request_is = refl; store_is = refl }
 
 awake : (n : NodeParts) → n.arrived ≡ false → n.halted ≡ false → is_active n ≡ true
 awake n absent up = rw (absent, up) refl
@@ -247,6 +257,6 @@ arrive-ways S M core G inv may outcomes =
     let n = at.node in
     let i = may-arrive n at.passes in
     let mine : me n ≡ core = ap (λ (x : ℕ). let c : CoreId = record { 0 = x } in c) ((inv.machine.node core.0 n at.found).core) in
-    same-memory S M (Arrive core) G (silent-arrive S core).store_is
-    (outcomes.arrive core n at.found i.halted i.arrived i.done i.settled (silent-arrive S core)
+    same-memory S M (Arrive core) G (silent-arrive S core n at.found).store_is
+    (outcomes.arrive core n at.found i.halted i.arrived i.done i.settled (silent-arrive S core n at.found)
     (subst (λ (c : CoreId). NodeStep S (next S (Arrive core)) core.0 n (arrives n).0 None (to_keeper (Arrived c (task_ended_badly n.task)))) mine (arrive-step S core n at.found)))

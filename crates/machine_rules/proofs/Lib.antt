@@ -85,9 +85,16 @@ pub mod NoPhases
 pub mod BoundRuns
 mod AccessMade
 mod TasksMove
+mod ActionsDone
 mod ReadOff
-pub mod InProgramOrder
-pub mod RaceFree
+mod InProgramOrder
+mod LocksLegal
+mod BarrierKept
+mod PathLemmas
+mod Refused
+mod Served
+pub mod Sequential
+mod Guarded
 pub mod Reordered
 pub mod ReorderedCoherent
 pub mod Buffers

@@ -67,7 +67,7 @@ words-open C context =
 -- ---- locks
 
 -- no lock is held or waited for at its home
-lock-free : (C : Setting) (l : ℕ) (h : Lock) → IsShaped C → lock_at (initial_state C) l ≡ Some h → h ≡ free_lock C.shape.cores
+pub lock-free : (C : Setting) (l : ℕ) (h : Lock) → IsShaped C → lock_at (initial_state C) l ≡ Some h → h ≡ free_lock C.shape.cores
 lock-free C l h context found = by_test (nat_lt l (length C.program.locks)) (sym (opened-lock C l context) ∙ found) where
   by_test : (t : Bool) → cond t (Some (free_lock C.shape.cores)) None ≡ Some h → h ≡ free_lock C.shape.cores
   by_test true is = cc
@@ -84,7 +84,7 @@ none-held : (o : Option TaskDecl) → held_locks (option_map started o) ≡ 0
 none-held None = refl
 none-held (Some d) = refl
 
-node-unlocked : (C : Setting) (l c : ℕ) → bit (has_lock (initial_state C) c l) + bit (node_is_locking l (slice_get (initial_state C).nodes c)) ≡ 0
+pub node-unlocked : (C : Setting) (l c : ℕ) → bit (has_lock (initial_state C) c l) + bit (node_is_locking l (slice_get (initial_state C).nodes c)) ≡ 0
 node-unlocked C l c = by_node (slice_get (initial_state C).nodes c) refl where
   by_node : (o : Option NodeParts) → slice_get (initial_state C).nodes c ≡ o → bit (holds_lock l o) + bit (node_is_locking l o) ≡ 0
   by_node None is = refl

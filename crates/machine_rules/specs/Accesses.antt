@@ -1,31 +1,29 @@
--- The accesses of a run: the loads and stores that its tasks retire, in the order in which they retire.
+-- The actions of a run: the loads, stores, acquires and releases that its tasks retire, and how its cores meet at the barrier, in
+-- their order. `action_in` says which event of the machine is which action.
 use Rattle.std.specs.Prelude.{ℕ, false, List, slice_get, Option, Some, None}
 use Rattle.dn_base.specs.declared.ids.CoreId.{CoreId}
 use Rattle.dn_base.specs.declared.ids.WordId.{WordId}
-use Rattle.dn_base.specs.declared.ids.Grant.{Grant}
+use Rattle.dn_base.specs.declared.ids.Grant.{Grant as Granted}
 use Rattle.dn_base.specs.declared.ids.LoadSeen.{LoadSeen}
 use Rattle.rv_core.specs.declared.need.Need as need
 use Rattle.rv_core.specs.declared.need.Need.{Need}
+use Rattle.message_net.specs.declared.actor.Actor.{Actor}
+use Rattle.message_net.specs.declared.actor.Actor.TheVariants.{Core}
 use Rattle.message_net.specs.declared.event.Event.{Event}
-use Rattle.message_net.specs.declared.event.Event.TheVariants.{Instr}
+use Rattle.message_net.specs.declared.event.Event.TheVariants.{Instr, Evict, Arrive, Handle}
+use Rattle.message_net.specs.declared.message.Mail.{Mail}
+use Rattle.message_net.specs.declared.message.Message.{Message}
+use Rattle.message_net.specs.declared.message.Message.TheVariants.{Grant, Go}
+use Rattle.message_net.specs.Pool.{removed}
+use Rattle.registration_protocol.specs.declared.node.Received.{Received}
 use Rattle.registration_protocol.specs.Node.{NodeParts, Setting, entry_of, need_now}
+use Rattle.registration_protocol.specs.Messages.{node_gets}
 use Rattle.registration_protocol.specs.Parts.{held_locks, retired_so_far}
 use Rattle.machine_rules.specs.State.{State}
-use Rattle.machine_rules.specs.Next.{seen_in, granted_in}
+use Rattle.machine_rules.specs.Next.{seen_in}
 use Rattle.machine_rules.specs.Memory.{value_in_entry, store_in}
 use Rattle.machine_rules.specs.Runs.{read_off}
-
--- An access of a word by the task of a core in a phase. Its place is how many instructions the task had retired before it, and
--- `held` are the locks that the task held, as the bits of a number. A load reads the word's value, and a store writes one. A
--- store of a part of the word does both: it keeps the rest of the value that it reads
-pub record Access : Type 0 where
-  pub phase : ℕ
-  pub core : ℕ
-  pub place : ℕ
-  pub held : ℕ
-  pub word : ℕ
-  pub read : Option ℕ
-  pub written : Option ℕ
+use Rattle.machine_rules.specs.Actions.{Access, Action, accesses, acquires, releases, arrives, starts}
 
 -- the access of a word by the next instruction of a core's node
 abbrev pub access_by : CoreId → NodeParts → WordId → Option ℕ → Option ℕ → Access
@@ -52,23 +50,60 @@ unfoldable pub access_in : State → Event → Option Access
 access_in S (Instr core) = access_at S core (slice_get S.nodes core.0)
 access_in S _ = None
 
--- the accesses of a run
-abbrev pub accesses_of : State → List Event → List Access
-accesses_of S events = read_off access_in S events
+-- the release of a lock by the next instruction, if it is one
+abbrev pub release_by : CoreId → NodeParts → Option Need → Option Action
+release_by core n (Some (need.TheVariants.Release lock)) =
+    Some (releases (record { phase = n.phase; core = core.0; place = retired_so_far n.task; lock = lock.0 }))
+release_by core n _ = None
 
--- what a run's accesses are ordered by: a task accesses a word, or takes the lock that it is granted
-pub data Action : Type 0 where
-  accesses : Access → Action
-  takes : Grant → Action
+abbrev pub release_at : Setting → CoreId → Option NodeParts → Option Action
+release_at C core None = None
+release_at C core (Some n) = release_by core n (need_now C n)
 
-abbrev pub action_by : Option Access → Option Grant → Option Action
-action_by (Some a) granted = Some (accesses a)
-action_by None (Some g) = Some (takes g)
+-- the arrival of a core at the barrier
+abbrev pub arrival_at : CoreId → Option NodeParts → Option Action
+arrival_at core None = None
+arrival_at core (Some n) = Some (arrives (record { phase = n.phase; core = core.0 }))
+
+-- the acquire by a task that is granted its lock
+abbrev pub acquire_by : CoreId → NodeParts → Option Granted → Option Action
+acquire_by core n None = None
+acquire_by core n (Some g) = Some (acquires (record { phase = n.phase; core = core.0; place = retired_so_far n.task; lock = g.lock.0 }))
+
+-- what a core does as it handles a message: it takes the lock that it is granted, or it starts the phase in which it is then
+abbrev pub synchronizes_by : CoreId → NodeParts → Message → NodeParts × Received → Option Action
+synchronizes_by core n (Grant lock signature) after = acquire_by core n after.1.granted
+synchronizes_by core n (Go phase) after = Some (starts (record { phase = after.0.phase; core = core.0 }))
+synchronizes_by core n _ after = None
+
+abbrev pub synchronizes_at : Setting → CoreId → Message → Option NodeParts → Option Action
+synchronizes_at C core message None = None
+synchronizes_at C core message (Some n) = synchronizes_by core n message (node_gets C n message)
+
+abbrev pub synchronizes_to : State → Actor → Message → Option Action
+synchronizes_to S (Core core) message = synchronizes_at S.setting core message (slice_get S.nodes core.0)
+synchronizes_to S _ message = None
+
+abbrev pub synchronizes_with : State → Option Mail → Option Action
+synchronizes_with S None = None
+synchronizes_with S (Some m) = synchronizes_to S m.to m.message
+
+-- what orders the accesses: an acquire as its grant is taken, a release, an arrival, and the start of a phase
+unfoldable pub synchronization_in : State → Event → Option Action
+synchronization_in S (Instr core) = release_at S.setting core (slice_get S.nodes core.0)
+synchronization_in S (Evict core word) = None
+synchronization_in S (Arrive core) = arrival_at core (slice_get S.nodes core.0)
+synchronization_in S (Handle id) = synchronizes_with S (removed id S.mails).0
+
+-- the action that an event is, if it is one
+abbrev pub action_by : Option Action → Option Access → Option Action
+action_by (Some synchronization) access = Some synchronization
+action_by None (Some a) = Some (accesses a)
 action_by None None = None
 
 abbrev pub action_in : State → Event → Option Action
-action_in S e = action_by (access_in S e) (granted_in S e)
+action_in S e = action_by (synchronization_in S e) (access_in S e)
 
--- the accesses and grants of a run, in their order
+-- the actions of a run, in the order in which they retire
 abbrev pub actions_of : State → List Event → List Action
 actions_of S events = read_off action_in S events

@@ -8,7 +8,11 @@ pub mod Sound
 pub mod Rest
 pub mod Bound
 pub mod Reordered
+pub mod Actions
 pub mod Accesses
 pub mod Consistent
 pub mod Racing
+pub mod Guarded
+pub mod Litmus
+pub mod Fair
 pub mod Buffers

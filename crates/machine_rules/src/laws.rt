@@ -1,6 +1,6 @@
 //! What holds of the machine's states and runs, for proofs about them. A theorem is a function without effect; its contract
 //! states the theorem.
-ghost use Rattle.std.specs.Prelude.{◌≡◌, ℕ, ◌+◌, ◌*◌, ◌≤◌, true, List, length, Some, slice_index};
+ghost use Rattle.std.specs.Prelude.{◌≡◌, ℕ, ◌+◌, ◌*◌, ◌≤◌, true, List, ◌∷◌, ◌++◌, length, Some, slice_index};
 ghost use Rattle.dn_base.specs.declared.ids.LoadSeen.{LoadSeen};
 ghost use Rattle.message_net.specs.declared.actor.Actor.{Actor};
 ghost use Rattle.message_net.specs.declared.event.Event.{Event};
@@ -13,9 +13,12 @@ ghost use Rattle.machine_rules.specs.Bound.{retired_in, started_in};
 ghost use Rattle.machine_rules.specs.Coherent.{Coherent};
 ghost use Rattle.machine_rules.specs.Rest.{IsAtRest};
 ghost use Rattle.machine_rules.specs.Sound.{IsReady, IsWellFormed, IsSound};
-ghost use Rattle.machine_rules.specs.Accesses.{accesses_of, actions_of};
+ghost use Rattle.machine_rules.specs.Actions.{Action};
+ghost use Rattle.machine_rules.specs.Accesses.{actions_of};
 ghost use Rattle.machine_rules.specs.Consistent.{IsSequentialOrder};
-ghost use Rattle.machine_rules.specs.Racing.{IsRaceFree};
+ghost use Rattle.machine_rules.specs.Racing.{IsDataRaceFree, IsMutuallyExclusive, ArePhasesApart};
+ghost use Rattle.machine_rules.specs.Guarded.{IsGuarded};
+ghost use Rattle.machine_rules.specs.Fair.{asked_of, acquired_of, IsFirstComeFirstServed, WaitsFor};
 ghost use Rattle.machine_rules.specs.Buffers.{mails_most, between, between_most};
 ghost use Rattle.machine_rules.specs.Reordered.{IsReordered, GoOnAlike};
 
@@ -54,16 +57,47 @@ pub fn each_load_reads_the_stores_before_it()
         → seen.value ≡ slice_index (memory_after C.program.memory (initial_state C) events) seen.word.0 }
 {}
 
-/// Every run is sequentially consistent. The order in which its accesses retire is one in which those of each core stand in the
-/// order of its program, and each reads what the last store to its word before it has written, or the program's memory.
+/// Every run is sequentially consistent, with its locks and barriers. The order in which its actions retire is one in which those
+/// of each core stand in the order of its program, each load reads what the last store to its word before it has written, or the
+/// program's memory, and each lock and the barrier allow what is done with them.
 pub fn every_run_is_sequentially_consistent()
     ensures { (C : Setting) (events : List Event) → IsWellFormed C → IsRun (initial_state C) events
-        → IsSequentialOrder C.program.memory (accesses_of (initial_state C) events) (accesses_of (initial_state C) events) }
+        → IsSequentialOrder C.shape.cores C.program.memory (actions_of (initial_state C) events) (actions_of (initial_state C) events) }
 {}
 
-/// No run has a data race: if accesses of two cores conflict, a barrier or a lock that is handed on is between them.
+/// No run has a data race: of any two accesses that conflict the earlier happens before the later.
 pub fn no_run_has_a_data_race()
-    ensures { (C : Setting) (events : List Event) → IsWellFormed C → IsRun (initial_state C) events → IsRaceFree (actions_of (initial_state C) events) }
+    ensures { (C : Setting) (events : List Event) → IsWellFormed C → IsRun (initial_state C) events → IsDataRaceFree (actions_of (initial_state C) events) }
+{}
+
+/// How accesses that conflict are ordered: the barrier of a phase is between them, or both tasks hold one lock, which the second
+/// is granted in between.
+pub fn accesses_that_conflict_are_guarded()
+    ensures { (C : Setting) (events : List Event) → IsWellFormed C → IsRun (initial_state C) events → IsGuarded (actions_of (initial_state C) events) }
+{}
+
+/// In a sequential order no two cores hold a lock at once: between two acquires of it the first core releases it.
+pub fn a_lock_has_one_holder_at_a_time()
+    ensures { (cores : ℕ) (first : List ℕ) (actions order : List Action) → IsSequentialOrder cores first actions order → IsMutuallyExclusive order }
+{}
+
+/// In a sequential order phases don't overlap: an action of a phase comes after each arrival in each phase before it.
+pub fn phases_do_not_overlap()
+    ensures { (cores : ℕ) (first : List ℕ) (actions order : List Action) → IsSequentialOrder cores first actions order → ArePhasesApart order }
+{}
+
+/// Locks are first come, first served, whatever the schedule: the cores acquire a lock in the order in which its home handles
+/// their requests.
+pub fn locks_are_first_come_first_served()
+    ensures { (C : Setting) (events : List Event) (lock : ℕ) → IsWellFormed C → IsRun (initial_state C) events
+        → IsFirstComeFirstServed (asked_of lock (initial_state C) events) (acquired_of lock (actions_of (initial_state C) events)) }
+{}
+
+/// So a core whose request is handled waits for one acquire by each core that asked before it and hasn't acquired the lock yet:
+/// if there are `ahead` of these, the next acquire after as many is its own.
+pub fn a_core_waits_for_those_before_it()
+    ensures { (C : Setting) (past later : List Event) (e : Event) (ahead : ℕ) → IsWellFormed C → IsRun (initial_state C) (past ++ e ∷ later)
+        → WaitsFor (initial_state C) past e later ahead }
 {}
 
 /// If no event is enabled any more, all nodes are halted; or some task of the phase hasn't ended, and each such task waits for a

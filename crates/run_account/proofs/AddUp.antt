@@ -14,7 +14,7 @@ use Rattle.run_account.specs.declared.cache.Share.TheVariants.{Shared, Owned}
 use Rattle.run_account.specs.Counts.{asks, tells, puts}
 use Rattle.run_account.specs.Lists.{no_lists}
 use Rattle.run_account.specs.Runs.{listed_of_run, number_with_lists}
-use Rattle.run_account.proofs.Weights.{one, kinds_weigh, waits_weigh, weight, AgreeOnRows, run-agree, number-weight, weight-plus}
+use Rattle.run_account.proofs.Weights.{one, kinds_weigh, waits_weigh, weight, AgreeOnRows, AgreeLater, none-later, run-agree, number-weight, weight-plus}
 
 -- sums of weights
 abbrev two : Measure → Measure → Measure → ℕ
@@ -171,22 +171,22 @@ module _ (S : State) (events : List Event) (by : Grouping) (group : ℕ) where
   three-are : (a b c : Measure) → W (three a b c) ≡ N a + N b + N c
   three-are a b c = plus (two a b) c ∙ ap (λ (n : ℕ). n + N c) (two-are a b)
 
-  agreed : (v w : Measure → ℕ) → AgreeOnRows v w → v Messages ≡ w Messages → W v ≡ W w
-  agreed v w agree same = run-agree regions by group v w agree same S (no_lists S.setting.shape) events
+  agreed : (v w : Measure → ℕ) → AgreeOnRows v w → v Messages ≡ w Messages → AgreeLater v w → W v ≡ W w
+  agreed v w agree same later = run-agree regions by group v w agree same later S (no_lists S.setting.shape) events
 
   pub invalidations : N ListInvalidations ≡ N ListAcknowledgements
   invalidations =
-      is-number ListInvalidations ∙ agreed (one ListInvalidations) (one ListAcknowledgements) invalidations-agree refl ∙ sym (is-number ListAcknowledgements)
+      is-number ListInvalidations ∙ agreed (one ListInvalidations) (one ListAcknowledgements) invalidations-agree refl (λ m late. rw (none-later ListInvalidations m (omega arith) late, none-later ListAcknowledgements m (omega arith) late) refl) ∙ sym (is-number ListAcknowledgements)
 
   pub requests : N ListReadRequests + N ListWriteRequests ≡ N ListReplies
   requests =
-      sym (two-are ListReadRequests ListWriteRequests) ∙ agreed (two ListReadRequests ListWriteRequests) (one ListReplies) requests-agree refl
+      sym (two-are ListReadRequests ListWriteRequests) ∙ agreed (two ListReadRequests ListWriteRequests) (one ListReplies) requests-agree refl (λ m late. rw (none-later ListReadRequests m (omega arith) late, none-later ListWriteRequests m (omega arith) late, none-later ListReplies m (omega arith) late) refl)
       ∙ sym (is-number ListReplies)
 
   pub waits : N ListWaitsRead + N ListWaitsWrite + N WaitsHereAlone ≡ N WaitsRead + N WaitsWrite + N WaitsListAlone
   waits =
       sym (three-are ListWaitsRead ListWaitsWrite WaitsHereAlone)
-      ∙ agreed (three ListWaitsRead ListWaitsWrite WaitsHereAlone) (three WaitsRead WaitsWrite WaitsListAlone) waits-agree refl
+      ∙ agreed (three ListWaitsRead ListWaitsWrite WaitsHereAlone) (three WaitsRead WaitsWrite WaitsListAlone) waits-agree refl (λ m late. rw (none-later ListWaitsRead m (omega arith) late, none-later ListWaitsWrite m (omega arith) late, none-later WaitsHereAlone m (omega arith) late, none-later WaitsRead m (omega arith) late, none-later WaitsWrite m (omega arith) late, none-later WaitsListAlone m (omega arith) late) refl)
       ∙ three-are WaitsRead WaitsWrite WaitsListAlone
 
   -- each sum of weights, one measure more
@@ -208,7 +208,7 @@ module _ (S : State) (events : List Event) (by : Grouping) (group : ℕ) where
   pub messages : N ListMessages ≡ N ListReadRequests + N ListWriteRequests + N ListForwards + N ListReplies + N ListInvalidations + N ListAcknowledgements
       + N ListPutBacks + N ListPutShares + N ListPutAcks
   messages =
-      is-number ListMessages ∙ agreed (one ListMessages) nine messages-agree refl
+      is-number ListMessages ∙ agreed (one ListMessages) nine messages-agree refl (λ m late. rw (none-later ListMessages m (omega arith) late, none-later ListReadRequests m (omega arith) late, none-later ListWriteRequests m (omega arith) late, none-later ListForwards m (omega arith) late, none-later ListReplies m (omega arith) late, none-later ListInvalidations m (omega arith) late, none-later ListAcknowledgements m (omega arith) late, none-later ListPutBacks m (omega arith) late, none-later ListPutShares m (omega arith) late, none-later ListPutAcks m (omega arith) late) refl)
       ∙ omega (
         arith,
         three-are ListReadRequests ListWriteRequests ListForwards,

@@ -43,7 +43,7 @@ use Rattle.run_account.proofs.Staying.{IsPhased, next-kept, phases-stay, opened-
 -- ---- sums over the items of a measure, each of which is in a group
 
 -- an item is in one of so many groups, or isn't of the measure
-abbrev IsGroupedFor : List ℕ → Grouping → ℕ → Measure → Item → Type 0
+abbrev pub IsGroupedFor : List ℕ → Grouping → ℕ → Measure → Item → Type 0
 IsGroupedFor regions by groups m item = IsGrouped regions by groups item ⊎ (same_measure m item.measure ≡ false)
 
 none-plus : (a b : ℕ) → a ≡ b → 0 + a ≡ b
@@ -81,7 +81,7 @@ module _ (regions : List ℕ) (by : Grouping) (groups : ℕ) (m : Measure) where
   same-map f g same [] = refl
   same-map f g same (k ∷ ks) = rw (same k, same-map f g same ks) refl
 
-  measured-sum : (items : List Item) → Each (IsGroupedFor regions by groups m) items → sum_of_groups regions by groups m items ≡ items_of_measure m items
+  pub measured-sum : (items : List Item) → Each (IsGroupedFor regions by groups m) items → sum_of_groups regions by groups m items ≡ items_of_measure m items
   measured-sum items each =
       ap sum (same-map (λ (group : ℕ). count_in regions by m group items) (λ (group : ℕ). count_in regions by m group (kept items each)) (kept-count items each) (range_with_len 0 groups))
       ∙ groups-sum regions by groups m (kept items each) (kept-grouped items each)

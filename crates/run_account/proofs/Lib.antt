@@ -9,6 +9,7 @@ pub mod Gone
 pub mod Grouped
 pub mod Handed
 pub mod Has
+pub mod Kinded
 pub mod Known
 pub mod Later
 pub mod ListAfter

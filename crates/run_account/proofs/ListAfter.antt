@@ -1,5 +1,5 @@
 -- What the count is after each event.
-use Rattle.std.proofs.Common.{◌≡◌, slice_get, Some, None, refl}
+use Rattle.std.proofs.Common.{◌≡◌, ◌++◌, slice_get, Some, None, refl}
 use Rattle.dn_base.specs.declared.ids.CoreId.{CoreId}
 use Rattle.dn_base.specs.declared.ids.WordId.{WordId}
 use Rattle.message_net.specs.declared.actor.MailId.{MailId}
@@ -10,11 +10,10 @@ use Rattle.machine_rules.specs.Accesses.{access_in}
 use Rattle.run_account.specs.Tallies.{with_items}
 use Rattle.run_account.specs.declared.access.CountedAccess.{CountedAccess}
 use Rattle.run_account.specs.Lists.{lists_after}
-use Rattle.run_account.specs.Counts.{access_items}
-use Rattle.run_account.specs.Runs.{counted_in, served_mail_items, event_items, Listed, listing, listed_after}
+use Rattle.run_account.specs.Runs.{counted_in, served_mail_items, carried_mail_items, items_of, event_items, Listed, listing, listed_after}
 
 pub after_access : (S : State) (core : CoreId) (A : Listed) (a : CountedAccess) → counted_in S (Instr core) ≡ Some a
-    → listed_after S (Instr core) A ≡ record { tallies = with_items A.tallies (access_items A.lists a); lists = lists_after A.lists a }
+    → listed_after S (Instr core) A ≡ record { tallies = with_items A.tallies (items_of A.lists (Some a)); lists = lists_after A.lists a }
 unfolding listed_after event_items
 after_access S core A a is = rw is refl
 
@@ -26,7 +25,7 @@ pub no_core : (S : State) (core : CoreId) → slice_get S.nodes core.0 ≡ None 
 unfolding counted_in access_in
 no_core S core none = rw none refl
 
-pub after_handle : (S : State) (id : MailId) (A : Listed) → listed_after S (Handle id) A ≡ listing A (served_mail_items S (removed id S.mails).0)
+pub after_handle : (S : State) (id : MailId) (A : Listed) → listed_after S (Handle id) A ≡ listing A (served_mail_items S (removed id S.mails).0 ++ carried_mail_items S (removed id S.mails).0)
 unfolding listed_after event_items counted_in access_in
 after_handle S id A = refl
 

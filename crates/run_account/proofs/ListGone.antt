@@ -26,9 +26,9 @@ use Rattle.run_account.specs.declared.cache.Share.TheVariants.{Shared, Owned}
 use Rattle.run_account.specs.Caches.{SharerCache, share_at}
 use Rattle.run_account.specs.Lists.{SharerLists, no_lists, share_of, is_hit, with_place}
 use Rattle.run_account.specs.Counts.{asks, tells, puts, messages_items, goes_for, gone_items, told_items, others_items, missed_items, waits_items, items_by, access_items}
-use Rattle.run_account.specs.Runs.{counted_in, served, served_items, node_item, served_mail_items, items_of, event_items, next_lists, listed_from, number_of_both, gone_by, gone_from, gone_in_run, is_share_shared, is_shared_line}
-use Rattle.run_account.proofs.Mails.{measured-weight}
-use Rattle.run_account.proofs.Weights.{one, kinds_weigh, waits_weigh, weight, weight-append, kinds-weight, waits-weight}
+use Rattle.run_account.specs.Runs.{counted_in, served, served_items, node_item, served_mail_items, carried_mail_items, value_items, items_of, event_items, next_lists, listed_from, number_of_both, gone_by, gone_from, gone_in_run, is_share_shared, is_shared_line}
+use Rattle.run_account.proofs.Mails.{measured-weight, zero_weight, zero-is}
+use Rattle.run_account.proofs.Weights.{one, kinds_weigh, waits_weigh, weight, weight-append, kinds-weight, waits-weight, AgreeLater, none-later, kinds-agree-on, values-agree}
 
 -- a weight of the messages about lines that go alone
 record IsOfGone (v : Measure → ℕ) (u : Share → ℕ) : Type 0 where
@@ -37,6 +37,7 @@ record IsOfGone (v : Measure → ℕ) (u : Share → ℕ) : Type 0 where
   puts_are : (share : Share) → kinds_weigh v (puts share) ≡ u share
   waits_none : (kind : AccessKind) (waited hit : Bool) → waits_weigh v kind waited hit ≡ 0
   messages_none : v measure.Messages ≡ 0
+  later_none : AgreeLater v zero_weight
 
 -- what lines weigh
 abbrev lines_weigh : (Share → ℕ) → List Line → ℕ
@@ -117,14 +118,28 @@ module _ (v : Measure → ℕ) (u : Share → ℕ) (of : IsOfGone v u) where
 
   items-are : (L : SharerLists) (o : Option CountedAccess) → W (items_of L o) ≡ line_weighs u (gone_by L o)
   items-are L None = refl
-  items-are L (Some a) = access-are L a
+  items-are L (Some a) =
+      omega (
+        arith,
+        W-append (value_items a (share_of L a.core.0 a.word.0)) (access_items L a),
+        values-agree [] by.Run 0 v zero_weight of.later_none a (share_of L a.core.0 a.word.0),
+        zero-is (value_items a (share_of L a.core.0 a.word.0)),
+        access-are L a,
+      )
 
   event-are : (S : State) (L : SharerLists) (e : Event) → W (event_items S L e) ≡ line_weighs u (gone_by L (counted_in S e))
   unfolding event_items counted_in access_in
   event-are S L (Instr core) = items-are L (counted_in S (Instr core))
   event-are S L (Evict core word) = refl
   event-are S L (Arrive core) = refl
-  event-are S L (Handle id) = mail-none S (removed id S.mails).0
+  event-are S L (Handle id) =
+      omega (
+        arith,
+        W-append (served_mail_items S (removed id S.mails).0) (carried_mail_items S (removed id S.mails).0),
+        mail-none S (removed id S.mails).0,
+        kinds-agree-on [] by.Run 0 v zero_weight of.later_none S (removed id S.mails).0,
+        zero-is (carried_mail_items S (removed id S.mails).0),
+      )
 
   run-are : (events : List Event) (S : State) (L : SharerLists) → W (listed_from S L events) ≡ lines_weigh u (gone_from S L events)
   run-are [] S L = refl
@@ -146,7 +161,7 @@ abbrev shared_one : Share → ℕ
 shared_one share = cond (is_share_shared share) 1 0
 
 acks-gone : IsOfGone (one measure.ListPutAcks) each_one
-acks-gone = record { asks_none = asks_none; tells_none = tells_none; puts_are = puts_are; waits_none = waits_none; messages_none = refl } where
+acks-gone = record { asks_none = asks_none; tells_none = tells_none; puts_are = puts_are; waits_none = waits_none; messages_none = refl; later_none = λ m late. none-later measure.ListPutAcks m (omega arith) late } where
   asks_none : (kind : AccessKind) → kinds_weigh (one measure.ListPutAcks) (asks kind) ≡ 0
   asks_none Load = refl
   asks_none Store = refl
@@ -174,7 +189,7 @@ acks-gone = record { asks_none = asks_none; tells_none = tells_none; puts_are = 
   waits_none Store false false = refl
 
 shares-gone : IsOfGone (one measure.ListPutShares) shared_one
-shares-gone = record { asks_none = asks_none; tells_none = tells_none; puts_are = puts_are; waits_none = waits_none; messages_none = refl } where
+shares-gone = record { asks_none = asks_none; tells_none = tells_none; puts_are = puts_are; waits_none = waits_none; messages_none = refl; later_none = λ m late. none-later measure.ListPutShares m (omega arith) late } where
   asks_none : (kind : AccessKind) → kinds_weigh (one measure.ListPutShares) (asks kind) ≡ 0
   asks_none Load = refl
   asks_none Store = refl

@@ -1,5 +1,5 @@
 -- Each mail about a word is one message of the run.
-use Rattle.std.proofs.Common.{◌≡◌, ℕ, ◌+◌, Bool, true, false, cond, List, [], ◌∷◌, Option, Some, None, refl, sym, ap, ◌∙◌, arith}
+use Rattle.std.proofs.Common.{◌≡◌, ℕ, ◌+◌, Bool, true, false, cond, List, [], ◌∷◌, ◌++◌, Option, Some, None, refl, sym, ap, ◌∙◌, arith}
 use Rattle.std.specs.Prelude.{count_by}
 use Rattle.std.specs.Option.{is_some}
 use Rattle.std.proofs.lemmas.List.Sums.{sum_by-cons, sum_by-append}
@@ -37,15 +37,15 @@ use Rattle.run_account.specs.declared.access.AccessKind.TheVariants.{Load, Store
 use Rattle.run_account.specs.declared.access.CountedAccess.{CountedAccess}
 use Rattle.run_account.specs.declared.cache.Share.{Share}
 use Rattle.run_account.specs.declared.cache.Share.TheVariants.{Shared, Owned}
-use Rattle.run_account.specs.Lists.{SharerLists, no_lists}
+use Rattle.run_account.specs.Lists.{SharerLists, no_lists, share_of}
 use Rattle.run_account.specs.Counts.{asks, tells, puts, access_items}
-use Rattle.run_account.specs.Runs.{counted_in, served, served_items, node_item, served_mail_items, items_of, event_items, next_lists, listed_from, number_of_both, is_about_word}
+use Rattle.run_account.specs.Runs.{counted_in, served, served_items, node_item, served_mail_items, carried_mail_items, value_items, items_of, event_items, next_lists, listed_from, number_of_both, is_about_word}
 use Rattle.run_account.proofs.Placed.{IsServed, served-by}
-use Rattle.run_account.proofs.Weights.{one, kinds_weigh, waits_weigh, weight, AgreeOnRows, access-agree}
+use Rattle.run_account.proofs.Weights.{one, kinds_weigh, waits_weigh, weight, weight-append, AgreeOnRows, AgreeLater, none-later, kinds-agree-on, values-agree, access-agree}
 
 -- ---- an access is no message of the run
 
-abbrev zero_weight : Measure → ℕ
+abbrev pub zero_weight : Measure → ℕ
 zero_weight m = 0
 
 no-messages : AgreeOnRows (one measure.Messages) zero_weight
@@ -82,14 +82,25 @@ measured-weight m [] = refl
 measured-weight m (item ∷ items) =
     sum_by-cons (λ (x : Item). cond (same_measure m x.measure) 1 0) item items ∙ ap (λ (n : ℕ). cond (same_measure m item.measure) 1 0 + n) (measured-weight m items)
 
-zero-is : (items : List Item) → weight [] by.Run 0 zero_weight items ≡ 0
+pub zero-is : (items : List Item) → weight [] by.Run 0 zero_weight items ≡ 0
 zero-is [] = refl
 zero-is (item ∷ items) = omega (arith, zero-is items)
+
+later-none : AgreeLater (one measure.Messages) zero_weight
+later-none m late = none-later measure.Messages m (omega arith) late
 
 access-none : (L : SharerLists) (o : Option CountedAccess) → items_of_measure measure.Messages (items_of L o) ≡ 0
 access-none L None = refl
 access-none L (Some a) =
-    measured-weight measure.Messages (access_items L a) ∙ access-agree [] by.Run 0 (one measure.Messages) zero_weight no-messages L a ∙ zero-is (access_items L a)
+    omega (
+      arith,
+      measured-weight measure.Messages (value_items a (share_of L a.core.0 a.word.0) ++ access_items L a),
+      weight-append [] by.Run 0 (one measure.Messages) (value_items a (share_of L a.core.0 a.word.0)) (access_items L a),
+      values-agree [] by.Run 0 (one measure.Messages) zero_weight later-none a (share_of L a.core.0 a.word.0),
+      zero-is (value_items a (share_of L a.core.0 a.word.0)),
+      access-agree [] by.Run 0 (one measure.Messages) zero_weight no-messages L a,
+      zero-is (access_items L a),
+    )
 
 -- ---- a mail is one if it is about a word
 
@@ -133,7 +144,16 @@ module _ (S : State) (known : AllNodes KnowsWords S) (coherent : Coherent S) whe
   event-one L (Instr core) = access-none L (counted_in S (Instr core))
   event-one L (Evict core word) = refl
   event-one L (Arrive core) = refl
-  event-one L (Handle id) = mail-one (removed id S.mails).0 (λ m e. coherent.expected m (was-there S id m e))
+  event-one L (Handle id) =
+      omega (
+        arith,
+        measured-weight measure.Messages (served_mail_items S (removed id S.mails).0 ++ carried_mail_items S (removed id S.mails).0),
+        weight-append [] by.Run 0 (one measure.Messages) (served_mail_items S (removed id S.mails).0) (carried_mail_items S (removed id S.mails).0),
+        measured-weight measure.Messages (served_mail_items S (removed id S.mails).0),
+        mail-one (removed id S.mails).0 (λ m e. coherent.expected m (was-there S id m e)),
+        kinds-agree-on [] by.Run 0 (one measure.Messages) zero_weight later-none S (removed id S.mails).0,
+        zero-is (carried_mail_items S (removed id S.mails).0),
+      )
 
 run-messages : (events : List Event) (S : State) (L : SharerLists) → AllNodes KnowsWords S → StaysCoherent S → IsRun S events
     → items_of_measure measure.Messages (listed_from S L events) ≡ count_by is_about_word (kinds_of S events)

@@ -16,7 +16,7 @@ pub with_items-append : (t : Tallies) (items more : List Item) → with_items t 
 with_items-append t [] more = refl
 with_items-append t (item ∷ items) more = with_items-append (with_item t item) items more
 
-index-within : (m : Measure) → measure_index m < 43
+index-within : (m : Measure) → measure_index m < 58
 index-within m = grind arith
 
 -- a row of numbers
@@ -25,8 +25,8 @@ row numbers group = get_or numbers group []
 
 -- each group has a number for each measure, which is this count
 record AreNumbers (numbers : List (List ℕ)) (N : ℕ → ℕ → ℕ) : Type 0 where
-  wide : (group : ℕ) → group < length numbers → length (row numbers group) ≡ 43
-  are : (index group : ℕ) → index < 43 → group < length numbers → get_or (row numbers group) index 0 ≡ capped (N index group)
+  wide : (group : ℕ) → group < length numbers → length (row numbers group) ≡ 58
+  are : (index group : ℕ) → index < 58 → group < length numbers → get_or (row numbers group) index 0 ≡ capped (N index group)
 
 capped-more : (n k : ℕ) → n ≡ capped k → capped (n + 1) ≡ capped (k + 1)
 capped-more n k e = grind (arith, e)
@@ -43,10 +43,10 @@ raised-there numbers index other k apart is = get_or-set_other numbers index oth
 abbrev more_at : Option ℕ → ℕ → ℕ → ℕ → ℕ
 more_at there index i group = cond ((i == index) && is_group group there) 1 0
 
-raised_in-are : (numbers : List (List ℕ)) (N : ℕ → ℕ → ℕ) (there : Option ℕ) (index : ℕ) → index < 43 → AreNumbers numbers N
+raised_in-are : (numbers : List (List ℕ)) (N : ℕ → ℕ → ℕ) (there : Option ℕ) (index : ℕ) → index < 58 → AreNumbers numbers N
     → AreNumbers (raised_in there index numbers) (λ i group. N i group + more_at there index i group)
 raised_in-are numbers N None index within are = record { wide = are.wide; are = same } where
-  same : (i group : ℕ) → i < 43 → group < length numbers → get_or (row numbers group) i 0 ≡ capped (N i group + more_at None index i group)
+  same : (i group : ℕ) → i < 58 → group < length numbers → get_or (row numbers group) i 0 ≡ capped (N i group + more_at None index i group)
   same i group low inside = by_test (i == index) where
     by_test : (t : Bool) → get_or (row numbers group) i 0 ≡ capped (N i group + cond (t && false) 1 0)
     by_test true = grind (arith, are.are i group low inside)
@@ -55,7 +55,7 @@ raised_in-are numbers N (Some g) index within are = record { wide = wide; are = 
   length-is : length (raised_in (Some g) index numbers) ≡ length numbers
   length-is = length-set numbers g (one_more_at index (row numbers g))
 
-  wide-row : (group : ℕ) → group < length numbers → (t : Bool) → (g == group) ≡ t → length (row (raised_in (Some g) index numbers) group) ≡ 43
+  wide-row : (group : ℕ) → group < length numbers → (t : Bool) → (g == group) ≡ t → length (row (raised_in (Some g) index numbers) group) ≡ 58
   wide-row group inside true e =
       let same : g ≡ group = grind (arith, nat_tests) in
       rw (same, get_or-set_same numbers group (one_more_at index (row numbers group)) [] inside)
@@ -64,10 +64,10 @@ raised_in-are numbers N (Some g) index within are = record { wide = wide; are = 
       let other : group ≢ g = grind (arith, nat_tests) in
       rw (get_or-set_other numbers g group (one_more_at index (row numbers g)) [] other) (are.wide group inside)
 
-  wide : (group : ℕ) → group < length (raised_in (Some g) index numbers) → length (row (raised_in (Some g) index numbers) group) ≡ 43
+  wide : (group : ℕ) → group < length (raised_in (Some g) index numbers) → length (row (raised_in (Some g) index numbers) group) ≡ 58
   wide group inside = wide-row group (rw (sym length-is) inside) (g == group) refl
 
-  in_row : (i group : ℕ) → i < 43 → group < length numbers → (t : Bool) → (i == index) ≡ t → get_or (one_more_at index (row numbers group)) i 0 ≡ capped (N i group + cond t 1 0)
+  in_row : (i group : ℕ) → i < 58 → group < length numbers → (t : Bool) → (i == index) ≡ t → get_or (one_more_at index (row numbers group)) i 0 ≡ capped (N i group + cond t 1 0)
   in_row i group low inside true e =
       let same : i ≡ index = grind (arith, nat_tests) in
       rw same (raised-here (row numbers group) index (N index group) (rw (are.wide group inside) within) (are.are index group within inside))
@@ -78,7 +78,7 @@ raised_in-are numbers N (Some g) index within are = record { wide = wide; are = 
       plus-none : (n : ℕ) → n + 0 ≡ n
       plus-none n = omega arith
 
-  by_group : (i group : ℕ) → i < 43 → group < length numbers → (t : Bool) → (g == group) ≡ t → get_or (row (raised_in (Some g) index numbers) group) i 0 ≡ capped (N i group + cond ((i == index) && t) 1 0)
+  by_group : (i group : ℕ) → i < 58 → group < length numbers → (t : Bool) → (g == group) ≡ t → get_or (row (raised_in (Some g) index numbers) group) i 0 ≡ capped (N i group + cond ((i == index) && t) 1 0)
   by_group i group low inside true e =
       let same : g ≡ group = grind (arith, nat_tests) in
       rw (same, get_or-set_same numbers group (one_more_at index (row numbers group)) [] inside) (and-true (i == index) refl)
@@ -94,7 +94,7 @@ raised_in-are numbers N (Some g) index within are = record { wide = wide; are = 
       and-false true = grind (arith, are.are i group low inside)
       and-false false = grind (arith, are.are i group low inside)
 
-  told : (i group : ℕ) → i < 43 → group < length (raised_in (Some g) index numbers) → get_or (row (raised_in (Some g) index numbers) group) i 0 ≡ capped (N i group + more_at (Some g) index i group)
+  told : (i group : ℕ) → i < 58 → group < length (raised_in (Some g) index numbers) → get_or (row (raised_in (Some g) index numbers) group) i 0 ≡ capped (N i group + more_at (Some g) index i group)
   told i group low inside = by_group i group low (rw (sym length-is) inside) (g == group) refl
 
 -- the same for the tables
@@ -130,21 +130,21 @@ counted t N m group (item ∷ items) are inside =
     counted (with_item t item) (counts_of N t item) m group items (after-item t N item are) (rw (keeps-length t item) inside)
     ∙ rw (keeps-regions t item, keeps-by t item) (ap capped (omega (arith, sum_by-cons (λ (x : Item). cond (counts_for t.regions t.by m group x) 1 0) item items)))
 
-nothing-yet : (groups : ℕ) → AreNumbers (replicate groups (replicate {A = ℕ} 43 0)) (λ index group. 0)
+nothing-yet : (groups : ℕ) → AreNumbers (replicate groups (replicate {A = ℕ} 58 0)) (λ index group. 0)
 nothing-yet groups = record { wide = wide; are = none } where
-  here : (group : ℕ) → group < length (replicate groups (replicate {A = ℕ} 43 0)) → row (replicate groups (replicate {A = ℕ} 43 0)) group ≡ replicate {A = ℕ} 43 0
-  here group inside = get_or-replicate groups group (replicate {A = ℕ} 43 0) [] (rw (sym (length-replicate groups (replicate {A = ℕ} 43 0))) inside)
+  here : (group : ℕ) → group < length (replicate groups (replicate {A = ℕ} 58 0)) → row (replicate groups (replicate {A = ℕ} 58 0)) group ≡ replicate {A = ℕ} 58 0
+  here group inside = get_or-replicate groups group (replicate {A = ℕ} 58 0) [] (rw (sym (length-replicate groups (replicate {A = ℕ} 58 0))) inside)
 
-  wide : (group : ℕ) → group < length (replicate groups (replicate {A = ℕ} 43 0)) → length (row (replicate groups (replicate {A = ℕ} 43 0)) group) ≡ 43
+  wide : (group : ℕ) → group < length (replicate groups (replicate {A = ℕ} 58 0)) → length (row (replicate groups (replicate {A = ℕ} 58 0)) group) ≡ 58
   wide group inside = rw (here group inside) refl
 
-  none : (index group : ℕ) → index < 43 → group < length (replicate groups (replicate {A = ℕ} 43 0)) → get_or (row (replicate groups (replicate {A = ℕ} 43 0)) group) index 0 ≡ capped 0
-  none index group low inside = rw (here group inside) (get_or-replicate 43 index 0 0 low)
+  none : (index group : ℕ) → index < 58 → group < length (replicate groups (replicate {A = ℕ} 58 0)) → get_or (row (replicate groups (replicate {A = ℕ} 58 0)) group) index 0 ≡ capped 0
+  none index group low inside = rw (here group inside) (get_or-replicate 58 index 0 0 low)
 
 pub number-is : (P : ProgramParts) (cores : ℕ) (by : Grouping) (items : List Item) (m : Measure) (group : ℕ) → group < groups_in P cores by
     → tally_of m group (with_items (no_tallies P cores by) items) ≡ capped (count_in (regions_from 0 P.regions) by m group items)
 number-is P cores by items m group inside =
-    counted (no_tallies P cores by) (λ index g. 0) m group items (nothing-yet (groups_in P cores by)) (rw (length-replicate (groups_in P cores by) (replicate {A = ℕ} 43 0)) inside)
+    counted (no_tallies P cores by) (λ index g. 0) m group items (nothing-yet (groups_in P cores by)) (rw (length-replicate (groups_in P cores by) (replicate {A = ℕ} 58 0)) inside)
     ∙ ap capped (none-plus (count_in (regions_from 0 P.regions) by m group items))
   where
     none-plus : (n : ℕ) → 0 + n ≡ n

@@ -1,9 +1,9 @@
 -- Each item of a run beside lists has a core, a phase and a word of the machine; and each mail about a word counts once.
-use Rattle.std.proofs.Common.{◌≡◌, ℕ, zero, suc, ◌+◌, ◌<◌, Bool, true, false, cond, length, slice_get, List, [], ◌∷◌, ◌++◌, flat_map, Option, Some, None, refl, sym, ap, subst, ◌∙◌, arith}
+use Rattle.std.proofs.Common.{◌≡◌, inl, inr, ℕ, zero, suc, ◌+◌, ◌<◌, Bool, true, false, cond, length, slice_get, List, [], ◌∷◌, ◌++◌, flat_map, Option, Some, None, refl, sym, ap, subst, ◌∙◌, arith}
 use Rattle.std.specs.Prelude.{◌&&◌, ◌==◌, not}
 use Rattle.std.specs.Option.{is_some}
-use Rattle.std.specs.List.{All, enumerate_from}
-use Rattle.std.proofs.lemmas.List.Elements.{All-cons}
+use Rattle.std.proofs.lemmas.Bool.Decides.{nat_tests}
+use Rattle.std.specs.List.{enumerate_from}
 use Rattle.std.proofs.lemmas.Option.{slice_get_within}
 use Rattle.dn_base.specs.declared.ids.CoreId.{CoreId}
 use Rattle.dn_base.specs.declared.ids.LoadSeen.{LoadSeen}
@@ -16,6 +16,7 @@ use Rattle.message_net.specs.declared.event.Event.TheVariants.{Instr, Evict, Arr
 use Rattle.message_net.specs.declared.message.Mail.{Mail}
 use Rattle.message_net.specs.declared.message.Message as message
 use Rattle.message_net.specs.declared.message.Message.{Message}
+use Rattle.message_net.specs.Kind.{kind_of}
 use Rattle.message_net.specs.Pool.{removed}
 use Rattle.word_cache.specs.declared.row.Entry.{Entry}
 use Rattle.registration_protocol.specs.declared.node.NodeWait as wait
@@ -46,7 +47,7 @@ use Rattle.run_account.specs.Kinds.{StaysCoherent}
 use Rattle.run_account.proofs.Belongs.{Each, each-append}
 use Rattle.run_account.proofs.Known.{IsWord, IsWaited, IsSeen, KnowsWords, AllNodes, entry-word, instr-about, stored-word}
 use Rattle.run_account.proofs.Staying.{IsPhased, next-kept, phases-stay, opened-phased, words-stay, opened-known}
-use Rattle.run_account.proofs.Sums.{groups-sum}
+use Rattle.run_account.proofs.Grouped.{IsGroupedFor, measured-sum}
 use Rattle.run_account.proofs.Told.{was-there}
 use Rattle.run_account.proofs.Words.{word-lies}
 use Rattle.run_account.specs.declared.access.CountedAccess.{CountedAccess}
@@ -55,7 +56,8 @@ use Rattle.run_account.specs.declared.cache.Share.{Share}
 use Rattle.run_account.specs.Caches.{SharerCache, share_at}
 use Rattle.run_account.specs.Lists.{SharerLists, no_lists, share_of, is_hit, with_place}
 use Rattle.run_account.specs.Counts.{asks, tells, puts, access_item, messages_items, goes_for, gone_items, told_items, others_items, missed_items, waits_here, waits_listed, waits_items, items_by, access_items}
-use Rattle.run_account.specs.Runs.{counted_in, served, served_items, node_item, served_mail_items, items_of, lists_with, event_items, next_lists, listed_from, listed_of_run, number_of_both, sum_beside}
+use Rattle.run_account.specs.Measure.{measure_index, same_measure}
+use Rattle.run_account.specs.Runs.{counted_in, served, served_items, node_item, served_mail_items, kind_measure, carried, carried_items, carried_mail_items, value_items, is_about_words, items_of, lists_with, event_items, next_lists, listed_from, listed_of_run, number_of_both, sum_beside}
 use Rattle.run_account.proofs.ListAfter.{no_core}
 use Rattle.run_account.proofs.Retires.{of_parts, counted-parts}
 use Rattle.run_account.proofs.Sets.{AllSets, AreBelow, gone-below, below-after, sets-first}
@@ -71,12 +73,20 @@ record IsPlaced (C : Setting) (item : Item) : Type 0 where
   core : item.core.0 < C.shape.cores
   word : IsItsWord C item.word
 
+-- an item that counts for a measure of words is
+abbrev IsPlacedIf : Setting → Item → Type 0
+IsPlacedIf C item = is_about_words item.measure ≡ true → IsPlaced C item
+
 record IsPlacedAccess (C : Setting) (a : CountedAccess) : Type 0 where
   phase : a.phase.0 < length C.program.phases
   core : a.core.0 < C.shape.cores
   word : a.word.0 < length C.program.memory
 
 -- ---- the items of an access
+
+each-maps : (P Q : Item → Type 0) → ((item : Item) → P item → Q item) → (items : List Item) → Each P items → Each Q items
+each-maps P Q f [] each = tt
+each-maps P Q f (item ∷ items) each = (f item each.0, each-maps P Q f items each.1)
 
 module _ (C : Setting) (L : SharerLists) (a : CountedAccess) (placed : IsPlacedAccess C a) (below : AllSets (AreBelow (length C.program.memory)) L) where
   abbrev P : Item → Type 0
@@ -264,24 +274,67 @@ module _ (C : Setting) (S : State) (good : IsGood C S) where
           word = word-within a.word is.its_word;
         }
 
-  each-served : (o : Option (CoreId × WordId)) → IsServed S o → Each (IsPlaced C) (served_items S o)
+  each-served : (o : Option (CoreId × WordId)) → IsServed S o → Each (IsPlacedIf C) (served_items S o)
   each-served None is = tt
   each-served (Some (core, word)) (n, found, within) =
-      subst (λ (there : Option NodeParts). Each (IsPlaced C) (node_item core word there)) (sym found)
-      (record { phase = phase-within core.0 n found; core = node-within core.0 n found; word = word-within word within }, tt)
+      subst (λ (there : Option NodeParts). Each (IsPlacedIf C) (node_item core word there)) (sym found)
+      ((λ about. record { phase = phase-within core.0 n found; core = node-within core.0 n found; word = word-within word within }), tt)
 
-  each-listed : (L : SharerLists) (e : Event) → Coherent S → AllSets (AreBelow (length C.program.memory)) L → Each (IsPlaced C) (event_items S L e)
+  -- a message about a word counts for its kind
+  one-carried : (core : CoreId) (word : WordId) → IsServed S (Some (core, word)) → (k : Measure) → Each (IsPlacedIf C) (carried_items S (Some (core, Some word)) (Some k))
+  one-carried core word (n, found, within) k =
+      ((λ about. record { phase = rw found (phase-within core.0 n found); core = node-within core.0 n found; word = word-within word within }), tt)
+
+  -- another counts for no measure of words
+  each-carried : (to : Actor) (m : Message) → IsExpected S to m → Each (IsPlacedIf C) (carried_items S (carried to m) (kind_measure (kind_of m)))
+  each-carried to (message.TheVariants.ReadReq word reader) is = one-carried reader word (served-by S good.known to (message.TheVariants.ReadReq word reader) is) measure.ReadReqs
+  each-carried to (message.TheVariants.ReadFwd word reader) is = one-carried reader word (served-by S good.known to (message.TheVariants.ReadFwd word reader) is) measure.ReadFwds
+  each-carried to (message.TheVariants.RegReq word core) is = one-carried core word (served-by S good.known to (message.TheVariants.RegReq word core) is) measure.RegReqs
+  each-carried to (message.TheVariants.RegFwd word core) is = one-carried core word (served-by S good.known to (message.TheVariants.RegFwd word core) is) measure.RegFwds
+  each-carried to (message.TheVariants.WriteBack word value core) is = one-carried core word (served-by S good.known to (message.TheVariants.WriteBack word value core) is) measure.WriteBacks
+  each-carried (Core core) (message.TheVariants.DataReply word value) is = one-carried core word (served-by S good.known (Core core) (message.TheVariants.DataReply word value) is) measure.DataReplies
+  each-carried (Bank bank) (message.TheVariants.DataReply word value) is = absurd is
+  each-carried Keeper (message.TheVariants.DataReply word value) is = absurd is
+  each-carried (Core core) (message.TheVariants.RegAck word) is = one-carried core word (served-by S good.known (Core core) (message.TheVariants.RegAck word) is) measure.RegAcks
+  each-carried (Bank bank) (message.TheVariants.RegAck word) is = absurd is
+  each-carried Keeper (message.TheVariants.RegAck word) is = absurd is
+  each-carried (Core core) (message.TheVariants.WbAck word) is = one-carried core word (served-by S good.known (Core core) (message.TheVariants.WbAck word) is) measure.WbAcks
+  each-carried (Bank bank) (message.TheVariants.WbAck word) is = absurd is
+  each-carried Keeper (message.TheVariants.WbAck word) is = absurd is
+  each-carried to (message.TheVariants.Acquire lock core) is = ((λ about. absurd (cc)), tt)
+  each-carried to (message.TheVariants.Release lock core signature) is = ((λ about. absurd (cc)), tt)
+  each-carried to (message.TheVariants.Arrived core bad) is = ((λ about. absurd (cc)), tt)
+  each-carried (Core core) (message.TheVariants.Grant lock signature) is = ((λ about. absurd (cc)), tt)
+  each-carried (Bank bank) (message.TheVariants.Grant lock signature) is = absurd is
+  each-carried Keeper (message.TheVariants.Grant lock signature) is = absurd is
+  each-carried (Core core) (message.TheVariants.Go phase) is = ((λ about. absurd (cc)), tt)
+  each-carried (Bank bank) (message.TheVariants.Go phase) is = absurd is
+  each-carried Keeper (message.TheVariants.Go phase) is = absurd is
+  each-carried (Core core) message.TheVariants.Halt is = ((λ about. absurd (cc)), tt)
+  each-carried (Bank bank) message.TheVariants.Halt is = absurd is
+  each-carried Keeper message.TheVariants.Halt is = absurd is
+
+  each-valued : (core : CoreId) (a : CountedAccess) (had : Option Share) → IsPlacedAccess C a → Each (IsPlacedIf C) (value_items a had)
+  each-valued core a None placed = ((λ about. record { phase = placed.phase; core = placed.core; word = placed.word }), tt)
+  each-valued core a (Some held) placed = tt
+
+  each-listed : (L : SharerLists) (e : Event) → Coherent S → AllSets (AreBelow (length C.program.memory)) L → Each (IsPlacedIf C) (event_items S L e)
   unfolding event_items
   each-listed L (Instr core) coherent below = by_access (counted_in S (Instr core)) refl where
-    by_access : (o : Option CountedAccess) → counted_in S (Instr core) ≡ o → Each (IsPlaced C) (items_of L o)
+    by_access : (o : Option CountedAccess) → counted_in S (Instr core) ≡ o → Each (IsPlacedIf C) (items_of L o)
     by_access None e = tt
-    by_access (Some a) e = each-access C L a (placed-access core a e) below
+    by_access (Some a) e =
+        each-append (IsPlacedIf C) (value_items a (share_of L a.core.0 a.word.0)) (access_items L a)
+        (each-valued core a (share_of L a.core.0 a.word.0) (placed-access core a e))
+        (each-maps (IsPlaced C) (IsPlacedIf C) (λ item placed about. placed) (access_items L a) (each-access C L a (placed-access core a e) below))
   each-listed L (Evict core word) coherent below = tt
   each-listed L (Arrive core) coherent below = tt
   each-listed L (Handle id) coherent below = by_mail (removed id S.mails).0 (λ m e. coherent.expected m (was-there S id m e)) where
-    by_mail : (took : Option Mail) → ((m : Mail) → took ≡ Some m → IsExpected S m.to m.message) → Each (IsPlaced C) (served_mail_items S took)
+    by_mail : (took : Option Mail) → ((m : Mail) → took ≡ Some m → IsExpected S m.to m.message) → Each (IsPlacedIf C) (served_mail_items S took ++ carried_mail_items S took)
     by_mail None is = tt
-    by_mail (Some m) is = each-served (served m.to m.message) (served-by S good.known m.to m.message (is m refl))
+    by_mail (Some m) is =
+        each-append (IsPlacedIf C) (served_mail_items S (Some m)) (carried_mail_items S (Some m))
+        (each-served (served m.to m.message) (served-by S good.known m.to m.message (is m refl))) (each-carried m.to m.message (is m refl))
 
   -- and the lists after it
   below-next : (L : SharerLists) (e : Event) → AllSets (AreBelow (length C.program.memory)) L → AllSets (AreBelow (length C.program.memory)) (next_lists S e L)
@@ -305,19 +358,11 @@ good-next C S e good may =
     }
 
 each-run : (C : Setting) (events : List Event) (S : State) (L : SharerLists) → IsGood C S → StaysCoherent S → IsRun S events → AllSets (AreBelow (length C.program.memory)) L
-    → Each (IsPlaced C) (listed_from S L events)
+    → Each (IsPlacedIf C) (listed_from S L events)
 each-run C [] S L good coherent run below = tt
 each-run C (e ∷ es) S L good coherent run below =
-    each-append (IsPlaced C) (event_items S L e) (listed_from (next S e) (next_lists S e L) es) (each-listed C S good L e (coherent [] tt) below)
+    each-append (IsPlacedIf C) (event_items S L e) (listed_from (next S e) (next_lists S e L) es) (each-listed C S good L e (coherent [] tt) below)
     (each-run C es (next S e) (next_lists S e L) (good-next C S e good run.0) (λ more runs. coherent (e ∷ more) (run.0, runs)) run.1 (below-next C S good L e below))
-
-all-of-each : (P : Item → Type 0) (items : List Item) → Each P items → All P items
-all-of-each P [] each = λ k d within. absurd (omega (arith, within))
-all-of-each P (item ∷ items) each = All-cons P item items each.0 (all-of-each P items each.1)
-
-each-maps : (P Q : Item → Type 0) → ((item : Item) → P item → Q item) → (items : List Item) → Each P items → Each Q items
-each-maps P Q f [] each = tt
-each-maps P Q f (item ∷ items) each = (f item each.0, each-maps P Q f items each.1)
 
 module _ (C : Setting) (ready : IsReady C) where
   abbrev regions : List ℕ
@@ -344,22 +389,31 @@ module _ (C : Setting) (ready : IsReady C) where
         known = opened-known C;
       }
 
-  each-placed : (events : List Event) → IsRun (initial_state C) events → (count : ℕ) → length C.program.phases ≡ count → Each (IsPlaced C) (listed_of_run (initial_state C) events)
+  each-placed : (events : List Event) → IsRun (initial_state C) events → (count : ℕ) → length C.program.phases ≡ count → Each (IsPlacedIf C) (listed_of_run (initial_state C) events)
   each-placed events run zero none =
-      subst (λ (es : List Event). Each (IsPlaced C) (listed_of_run (initial_state C) es)) (sym (no-phases-run C events none run)) tt
+      subst (λ (es : List Event). Each (IsPlacedIf C) (listed_of_run (initial_state C) es)) (sym (no-phases-run C events none run)) tt
   each-placed events run (suc k) some =
       each-run C events (initial_state C) (no_lists (initial_state C).setting.shape) (good-first (omega (arith, some))) (λ more runs. run-coherent C more ready runs) run
       (sets-first (AreBelow (length C.program.memory)) (initial_state C).setting.shape tt)
 
-  pub sums-of : (events : List Event) (by : Grouping) (m : Measure) → IsRun (initial_state C) events → sum_beside by m (initial_state C) events ≡ number_of_both m (initial_state C) events
-  sums-of events by m run =
+  -- an item of a measure of words is in a group
+  grouped-for : (by : Grouping) (m : Measure) → is_about_words m ≡ true → (item : Item) → IsPlacedIf C item → IsGroupedFor regions by (groups_in C.program C.shape.cores by) m item
+  grouped-for by m about item placed = by_test (same_measure m item.measure) refl where
+    by_test : (t : Bool) → same_measure m item.measure ≡ t → IsGroupedFor regions by (groups_in C.program C.shape.cores by) m item
+    by_test true e =
+        let same : measure_index m ≡ measure_index item.measure = grind (arith, nat_tests, e) in
+        inl (grouped by item (placed (rw (sym same) about)))
+    by_test false e = inr e
+
+  pub sums-of : (events : List Event) (by : Grouping) (m : Measure) → is_about_words m ≡ true → IsRun (initial_state C) events
+      → sum_beside by m (initial_state C) events ≡ number_of_both m (initial_state C) events
+  sums-of events by m about run =
       subst (λ (D : Setting). sum_of_groups (regions_from 0 D.program.regions) by (groups_in D.program D.shape.cores by) m (listed_of_run (initial_state C) events) ≡ number_of_both m (initial_state C) events)
       (sym (opened-setting C))
-      (groups-sum regions by (groups_in C.program C.shape.cores by) m (listed_of_run (initial_state C) events)
-      (all-of-each (IsGrouped regions by (groups_in C.program C.shape.cores by)) (listed_of_run (initial_state C) events)
-      (each-maps (IsPlaced C) (IsGrouped regions by (groups_in C.program C.shape.cores by)) (grouped by) (listed_of_run (initial_state C) events)
-      (each-placed events run (length C.program.phases) refl))))
+      (measured-sum regions by (groups_in C.program C.shape.cores by) m (listed_of_run (initial_state C) events)
+      (each-maps (IsPlacedIf C) (IsGroupedFor regions by (groups_in C.program C.shape.cores by) m) (grouped-for by m about) (listed_of_run (initial_state C) events)
+      (each-placed events run (length C.program.phases) refl)))
 
-pub groups-add-up : (C : Setting) (events : List Event) (by : Grouping) (m : Measure) → IsReady C → IsRun (initial_state C) events
+pub groups-add-up : (C : Setting) (events : List Event) (by : Grouping) (m : Measure) → is_about_words m ≡ true → IsReady C → IsRun (initial_state C) events
     → sum_beside by m (initial_state C) events ≡ number_of_both m (initial_state C) events
-groups-add-up C events by m ready run = sums-of C ready events by m run
+groups-add-up C events by m about ready run = sums-of C ready events by m about run

@@ -1,13 +1,18 @@
 -- What the items of a run weigh, where each measure has a weight: two weights that agree on each row of the table agree on each run.
-use Rattle.std.proofs.Common.{◌≡◌, ℕ, ◌+◌, Bool, true, false, cond, slice_get, List, [], ◌∷◌, ◌++◌, flat_map, Option, Some, None, refl, sym, ap, ◌∙◌, arith}
+use Rattle.std.proofs.Common.{◌≡◌, ℕ, ◌+◌, ◌<◌, ◌≤◌, Bool, true, false, cond, slice_get, List, [], ◌∷◌, ◌++◌, flat_map, Option, Some, None, refl, sym, ap, subst, ◌∙◌, arith}
 use Rattle.std.specs.Prelude.{◌&&◌, ◌==◌, not}
 use Rattle.std.specs.List.{enumerate_from}
+use Rattle.std.proofs.lemmas.Bool.Decides.{nat_tests}
+use Rattle.std.proofs.lemmas.Option.{same_Some}
 use Rattle.std.proofs.lemmas.List.Sums.{sum_by-cons}
 use Rattle.dn_base.specs.declared.ids.CoreId.{CoreId}
 use Rattle.dn_base.specs.declared.ids.WordId.{WordId}
 use Rattle.message_net.specs.declared.event.Event.{Event}
 use Rattle.message_net.specs.declared.event.Event.TheVariants.{Instr, Evict, Arrive, Handle}
+use Rattle.message_net.specs.declared.event.EventKind as kind
+use Rattle.message_net.specs.declared.event.EventKind.{EventKind}
 use Rattle.message_net.specs.declared.message.Mail.{Mail}
+use Rattle.message_net.specs.Kind.{kind_of}
 use Rattle.message_net.specs.Pool.{removed}
 use Rattle.registration_protocol.specs.Node.{NodeParts}
 use Rattle.machine_rules.specs.State.{State}
@@ -17,7 +22,7 @@ use Rattle.run_account.specs.declared.item.Grouping.{Grouping}
 use Rattle.run_account.specs.declared.item.Grouping.TheVariants as by
 use Rattle.run_account.specs.declared.measure.Measure.{Measure}
 use Rattle.run_account.specs.declared.measure.Measure.TheVariants as measure
-use Rattle.run_account.specs.Measure.{same_measure}
+use Rattle.run_account.specs.Measure.{measure_index, same_measure}
 use Rattle.run_account.specs.Items.{group_of, is_group, counts_for, count_in}
 use Rattle.run_account.specs.Events.{item_if}
 use Rattle.run_account.specs.declared.access.AccessKind.{AccessKind}
@@ -27,7 +32,7 @@ use Rattle.run_account.specs.declared.cache.Share.{Share}
 use Rattle.run_account.specs.Caches.{SharerCache, share_at}
 use Rattle.run_account.specs.Lists.{SharerLists, share_of, is_hit, with_place}
 use Rattle.run_account.specs.Counts.{asks, tells, puts, access_item, messages_items, goes_for, gone_items, told_items, others_items, missed_items, waits_here, waits_listed, waits_items, items_by, access_items}
-use Rattle.run_account.specs.Runs.{counted_in, served, served_items, node_item, served_mail_items, items_of, event_items, next_lists, listed_from}
+use Rattle.run_account.specs.Runs.{counted_in, served, served_items, node_item, served_mail_items, kind_measure, carried, carried_items, carried_mail_items, value_items, items_of, event_items, next_lists, listed_from}
 
 -- the weight that counts one measure
 abbrev pub one : Measure → Measure → ℕ
@@ -50,6 +55,39 @@ pub record AgreeOnRows (v w : Measure → ℕ) : Type 0 where
   pub tells_do : (kind : AccessKind) (has : Option Share) → kinds_weigh v (tells kind has) ≡ kinds_weigh w (tells kind has)
   pub puts_do : (share : Share) → kinds_weigh v (puts share) ≡ kinds_weigh w (puts share)
   pub waits_do : (kind : AccessKind) (waited hit : Bool) → waits_weigh v kind waited hit ≡ waits_weigh w kind waited hit
+
+-- two weights agree on the measures of traffic, which stand behind all others
+abbrev pub AgreeLater : (Measure → ℕ) → (Measure → ℕ) → Type 0
+AgreeLater v w = (m : Measure) → 43 ≤ measure_index m → v m ≡ w m
+
+-- one of the measures before them counts none of them
+pub none-later : (a m : Measure) → measure_index a < 43 → 43 ≤ measure_index m → one a m ≡ 0
+none-later a m low late = apart (measure_index a) (measure_index m) low late where
+  apart : (i j : ℕ) → i < 43 → 43 ≤ j → cond {A = ℕ} (i == j) 1 0 ≡ 0
+  apart i j low late = let e : (i == j) ≡ false = grind (arith, nat_tests, low, late) in rw e refl
+
+later-of : (a m : Measure) → 43 ≤ measure_index a → Some a ≡ Some m → 43 ≤ measure_index m
+later-of a m late e = subst (λ (x : Measure). 43 ≤ measure_index x) (same_Some a m e) late
+
+-- the measures of messages by their kinds are such
+pub kind-later : (k : EventKind) (m : Measure) → kind_measure k ≡ Some m → 43 ≤ measure_index m
+kind-later kind.TheVariants.Instr m e = absurd (cc)
+kind-later kind.TheVariants.Evict m e = absurd (cc)
+kind-later kind.TheVariants.Arrive m e = absurd (cc)
+kind-later kind.TheVariants.ReadReq m e = later-of measure.ReadReqs m (omega arith) e
+kind-later kind.TheVariants.ReadFwd m e = later-of measure.ReadFwds m (omega arith) e
+kind-later kind.TheVariants.DataReply m e = later-of measure.DataReplies m (omega arith) e
+kind-later kind.TheVariants.RegReq m e = later-of measure.RegReqs m (omega arith) e
+kind-later kind.TheVariants.RegFwd m e = later-of measure.RegFwds m (omega arith) e
+kind-later kind.TheVariants.RegAck m e = later-of measure.RegAcks m (omega arith) e
+kind-later kind.TheVariants.WriteBack m e = later-of measure.WriteBacks m (omega arith) e
+kind-later kind.TheVariants.WbAck m e = later-of measure.WbAcks m (omega arith) e
+kind-later kind.TheVariants.Acquire m e = later-of measure.Acquires m (omega arith) e
+kind-later kind.TheVariants.Release m e = later-of measure.Releases m (omega arith) e
+kind-later kind.TheVariants.Grant m e = later-of measure.Grants m (omega arith) e
+kind-later kind.TheVariants.Arrived m e = later-of measure.Arrivals m (omega arith) e
+kind-later kind.TheVariants.Go m e = later-of measure.Gos m (omega arith) e
+kind-later kind.TheVariants.Halt m e = later-of measure.Halts m (omega arith) e
 
 module _ (regions : List ℕ) (grouping : Grouping) (group : ℕ) where
   -- whether an item is in the group, and what items weigh there
@@ -155,7 +193,24 @@ module _ (regions : List ℕ) (grouping : Grouping) (group : ℕ) where
         by_hit true = refl
         by_hit false = missed-agree L a had
 
-  module _ (v w : Measure → ℕ) (agree : AgreeOnRows v w) (messages_do : v measure.Messages ≡ w measure.Messages) where
+  -- ---- two weights that agree on the measures of traffic
+
+  module _ (v w : Measure → ℕ) (later : AgreeLater v w) where
+    carried-agree : (S : State) (o : Option (CoreId × Option WordId)) (m : Option Measure) → ((k : Measure) → m ≡ Some k → v k ≡ w k)
+        → weight v (carried_items S o m) ≡ weight w (carried_items S o m)
+    carried-agree S None m same = refl
+    carried-agree S (Some (core, word)) None same = refl
+    carried-agree S (Some (core, word)) (Some m) same = rw (same m refl) refl
+
+    pub kinds-agree-on : (S : State) (m : Option Mail) → weight v (carried_mail_items S m) ≡ weight w (carried_mail_items S m)
+    kinds-agree-on S None = refl
+    kinds-agree-on S (Some m) = carried-agree S (carried m.to m.message) (kind_measure (kind_of m.message)) (λ k e. later k (kind-later (kind_of m.message) k e))
+
+    pub values-agree : (a : CountedAccess) (had : Option Share) → weight v (value_items a had) ≡ weight w (value_items a had)
+    values-agree a None = rw (later measure.ListReplyValues (omega arith)) refl
+    values-agree a (Some held) = refl
+
+  module _ (v w : Measure → ℕ) (agree : AgreeOnRows v w) (messages_do : v measure.Messages ≡ w measure.Messages) (later : AgreeLater v w) where
     served-agree : (S : State) (o : Option (CoreId × WordId)) → weight v (served_items S o) ≡ weight w (served_items S o)
     served-agree S None = refl
     served-agree S (Some (core, word)) = by_node (slice_get S.nodes core.0) where
@@ -169,14 +224,16 @@ module _ (regions : List ℕ) (grouping : Grouping) (group : ℕ) where
 
     items-agree : (L : SharerLists) (o : Option CountedAccess) → weight v (items_of L o) ≡ weight w (items_of L o)
     items-agree L None = refl
-    items-agree L (Some a) = access-agree v w agree L a
+    items-agree L (Some a) =
+        both v w agree (value_items a (share_of L a.core.0 a.word.0)) (access_items L a) (values-agree v w later a (share_of L a.core.0 a.word.0)) (access-agree v w agree L a)
 
     event-agree : (S : State) (L : SharerLists) (e : Event) → weight v (event_items S L e) ≡ weight w (event_items S L e)
     unfolding event_items
     event-agree S L (Instr core) = items-agree L (counted_in S (Instr core))
     event-agree S L (Evict core word) = refl
     event-agree S L (Arrive core) = refl
-    event-agree S L (Handle id) = mail-agree S (removed id S.mails).0
+    event-agree S L (Handle id) =
+        both v w agree (served_mail_items S (removed id S.mails).0) (carried_mail_items S (removed id S.mails).0) (mail-agree S (removed id S.mails).0) (kinds-agree-on v w later S (removed id S.mails).0)
 
     pub run-agree : (S : State) (L : SharerLists) (events : List Event) → weight v (listed_from S L events) ≡ weight w (listed_from S L events)
     run-agree S L [] = refl

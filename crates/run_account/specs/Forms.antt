@@ -1,5 +1,5 @@
 -- An account as it is printed: as a table with a row for each measure and a column for each group, or as csv lines for other
--- programs. A run beside lists of sharers is printed in the same ways, with two columns for each group.
+-- programs. A run beside lists of sharers is printed in the same ways, with two columns for each group, and its traffic as an account is.
 use Rattle.std.specs.Prelude.{ℕ, ◌-◌, List, [], ◌++◌, length, replicate, codes, flat_map, if◌then◌else◌, Bool, true, nat_lt}
 use Rattle.std.specs.List.{range_with_len}
 use Rattle.std.specs.Fmt.{decimal}
@@ -13,6 +13,8 @@ use Rattle.run_account.specs.declared.form.Form.{Form}
 use Rattle.run_account.specs.declared.form.Form as form
 use Rattle.run_account.specs.declared.list_row.ListRow.{ListRow}
 use Rattle.run_account.specs.declared.list_row.ListRow.TheVariants.{Pair, Single}
+use Rattle.run_account.specs.declared.traffic_row.TrafficRow.{TrafficRow}
+use Rattle.run_account.specs.Traffic.{row_number, traffic_rows, traffic_word}
 use Rattle.run_account.specs.Names.{measure_word, all_measures, list_measures, list_rows, row_word, grouping_word, group_name}
 
 -- ---- the table
@@ -61,6 +63,17 @@ list_row_text t row = left_cell (row_word row) ++ flat_map (row_cells t row) (ra
 unfoldable pub lists_table_text : ProgramParts → Tallies → List ℕ
 lists_table_text P t = groups_row P t ++ flat_map (list_row_text t) list_rows
 
+-- ---- the table of traffic
+
+abbrev pub traffic_cell : Tallies → TrafficRow → ℕ → List ℕ
+traffic_cell t row group = right_cell (decimal (row_number t group row))
+
+unfoldable pub traffic_row_text : Tallies → TrafficRow → List ℕ
+traffic_row_text t row = left_cell (traffic_word row) ++ flat_map (traffic_cell t row) (range_with_len 0 (length t.numbers)) ++ newline
+
+unfoldable pub traffic_table_text : ProgramParts → Tallies → List ℕ
+traffic_table_text P t = names_row P t ++ flat_map (traffic_row_text t) traffic_rows
+
 -- ---- the lines
 
 unfoldable pub csv_head : List ℕ
@@ -87,6 +100,17 @@ csv_lines P t m = flat_map (csv_line P t m) (range_with_len 0 (length t.numbers)
 unfoldable pub csv_text : List Measure → ProgramParts → Tallies → List ℕ
 csv_text ms P t = csv_head ++ flat_map (csv_lines P t) ms
 
+-- those of traffic
+abbrev pub traffic_line : ProgramParts → Tallies → TrafficRow → ℕ → List ℕ
+traffic_line P t row group =
+    if has_csv_line t.by (row_number t group row) then csv_fields (traffic_word row) (group_name P t.by group) (row_number t group row) else []
+
+abbrev pub traffic_lines : ProgramParts → Tallies → TrafficRow → List ℕ
+traffic_lines P t row = flat_map (traffic_line P t row) (range_with_len 0 (length t.numbers))
+
+unfoldable pub traffic_csv_text : ProgramParts → Tallies → List ℕ
+traffic_csv_text P t = csv_head ++ flat_map (traffic_lines P t) traffic_rows
+
 -- ---- both
 
 abbrev pub account_text : Form → ProgramParts → Tallies → List ℕ
@@ -96,3 +120,7 @@ account_text form.TheVariants.Csv P t = csv_text all_measures P t
 abbrev pub lists_text : Form → ProgramParts → Tallies → List ℕ
 lists_text form.TheVariants.Text P t = lists_table_text P t
 lists_text form.TheVariants.Csv P t = csv_text list_measures P t
+
+abbrev pub traffic_text : Form → ProgramParts → Tallies → List ℕ
+traffic_text form.TheVariants.Text P t = traffic_table_text P t
+traffic_text form.TheVariants.Csv P t = traffic_csv_text P t

@@ -16,3 +16,4 @@ pub mod Names
 pub mod Retired
 pub mod Runs
 pub mod Tallies
+pub mod Traffic

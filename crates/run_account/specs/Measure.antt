@@ -1,9 +1,9 @@
--- The measures of an account, and of a run beside lists of sharers, and their order.
+-- The measures of an account, of a run beside lists of sharers, and of its traffic, and their order.
 use Rattle.std.specs.Prelude.{ℕ, Bool, ◌==◌}
 use Rattle.run_account.specs.declared.measure.Measure.{Measure}
-use Rattle.run_account.specs.declared.measure.Measure.TheVariants.{Loads, Stores, LoadsLocal, StoresSilent, Registers, Misses, MissesFirst, MissesPhase, MissesLock, MissesEvicted, MissesTaken, DroppedPhase, DroppedLock, DroppedPhaseCurrent, DroppedLockCurrent, KeptTouched, KeptSignature, UntoldCopies, Taken, RepliesHome, RepliesCore, Bounces, EvictedCopies, EvictedRegistered, GrantsAtOnce, GrantsQueued, Messages, WaitsRead, WaitsWrite, ListMessages, ListReadRequests, ListWriteRequests, ListForwards, ListReplies, ListInvalidations, ListAcknowledgements, ListPutBacks, ListPutShares, ListPutAcks, ListWaitsRead, ListWaitsWrite, WaitsHereAlone, WaitsListAlone}
+use Rattle.run_account.specs.declared.measure.Measure.TheVariants.{Loads, Stores, LoadsLocal, StoresSilent, Registers, Misses, MissesFirst, MissesPhase, MissesLock, MissesEvicted, MissesTaken, DroppedPhase, DroppedLock, DroppedPhaseCurrent, DroppedLockCurrent, KeptTouched, KeptSignature, UntoldCopies, Taken, RepliesHome, RepliesCore, Bounces, EvictedCopies, EvictedRegistered, GrantsAtOnce, GrantsQueued, Messages, WaitsRead, WaitsWrite, ListMessages, ListReadRequests, ListWriteRequests, ListForwards, ListReplies, ListInvalidations, ListAcknowledgements, ListPutBacks, ListPutShares, ListPutAcks, ListWaitsRead, ListWaitsWrite, WaitsHereAlone, WaitsListAlone, ReadReqs, ReadFwds, DataReplies, RegReqs, RegFwds, RegAcks, WriteBacks, WbAcks, Acquires, Releases, Grants, Arrivals, Gos, Halts, ListReplyValues}
 
--- the twenty-six measures of an account in their order, and then the seventeen of a run beside lists
+-- the twenty-six measures of an account in their order, then the seventeen of a run beside lists, and the fifteen of its traffic
 abbrev pub measure_index : Measure → ℕ
 measure_index Loads = 0
 measure_index Stores = 1
@@ -48,6 +48,21 @@ measure_index ListWaitsRead = 39
 measure_index ListWaitsWrite = 40
 measure_index WaitsHereAlone = 41
 measure_index WaitsListAlone = 42
+measure_index ReadReqs = 43
+measure_index ReadFwds = 44
+measure_index DataReplies = 45
+measure_index RegReqs = 46
+measure_index RegFwds = 47
+measure_index RegAcks = 48
+measure_index WriteBacks = 49
+measure_index WbAcks = 50
+measure_index Acquires = 51
+measure_index Releases = 52
+measure_index Grants = 53
+measure_index Arrivals = 54
+measure_index Gos = 55
+measure_index Halts = 56
+measure_index ListReplyValues = 57
 
 -- whether two measures are one
 abbrev pub same_measure : Measure → Measure → Bool

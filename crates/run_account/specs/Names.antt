@@ -9,7 +9,7 @@ use Rattle.run_account.specs.declared.item.Grouping.TheVariants as by
 use Rattle.run_account.specs.declared.list_row.ListRow.{ListRow}
 use Rattle.run_account.specs.declared.list_row.ListRow.TheVariants.{Pair, Single}
 use Rattle.run_account.specs.declared.measure.Measure.{Measure}
-use Rattle.run_account.specs.declared.measure.Measure.TheVariants.{Loads, Stores, LoadsLocal, StoresSilent, Registers, Misses, MissesFirst, MissesPhase, MissesLock, MissesEvicted, MissesTaken, DroppedPhase, DroppedLock, DroppedPhaseCurrent, DroppedLockCurrent, KeptTouched, KeptSignature, UntoldCopies, Taken, RepliesHome, RepliesCore, Bounces, EvictedCopies, EvictedRegistered, GrantsAtOnce, GrantsQueued, Messages, WaitsRead, WaitsWrite, ListMessages, ListReadRequests, ListWriteRequests, ListForwards, ListReplies, ListInvalidations, ListAcknowledgements, ListPutBacks, ListPutShares, ListPutAcks, ListWaitsRead, ListWaitsWrite, WaitsHereAlone, WaitsListAlone}
+use Rattle.run_account.specs.declared.measure.Measure.TheVariants.{Loads, Stores, LoadsLocal, StoresSilent, Registers, Misses, MissesFirst, MissesPhase, MissesLock, MissesEvicted, MissesTaken, DroppedPhase, DroppedLock, DroppedPhaseCurrent, DroppedLockCurrent, KeptTouched, KeptSignature, UntoldCopies, Taken, RepliesHome, RepliesCore, Bounces, EvictedCopies, EvictedRegistered, GrantsAtOnce, GrantsQueued, Messages, WaitsRead, WaitsWrite, ListMessages, ListReadRequests, ListWriteRequests, ListForwards, ListReplies, ListInvalidations, ListAcknowledgements, ListPutBacks, ListPutShares, ListPutAcks, ListWaitsRead, ListWaitsWrite, WaitsHereAlone, WaitsListAlone, ReadReqs, ReadFwds, DataReplies, RegReqs, RegFwds, RegAcks, WriteBacks, WbAcks, Acquires, Releases, Grants, Arrivals, Gos, Halts, ListReplyValues}
 
 abbrev pub measure_word : Measure → List ℕ
 measure_word Loads = codes "loads"
@@ -55,6 +55,21 @@ measure_word ListWaitsRead = codes "list-waits-read"
 measure_word ListWaitsWrite = codes "list-waits-write"
 measure_word WaitsHereAlone = codes "waits-here-alone"
 measure_word WaitsListAlone = codes "waits-list-alone"
+measure_word ReadReqs = codes "read-req"
+measure_word ReadFwds = codes "read-fwd"
+measure_word DataReplies = codes "data-reply"
+measure_word RegReqs = codes "reg-req"
+measure_word RegFwds = codes "reg-fwd"
+measure_word RegAcks = codes "reg-ack"
+measure_word WriteBacks = codes "write-back"
+measure_word WbAcks = codes "wb-ack"
+measure_word Acquires = codes "acquire"
+measure_word Releases = codes "release"
+measure_word Grants = codes "grant"
+measure_word Arrivals = codes "arrived"
+measure_word Gos = codes "go"
+measure_word Halts = codes "halt"
+measure_word ListReplyValues = codes "list-reply-values"
 
 -- the measures of an account in the order in which they are printed
 unfoldable pub all_measures : List Measure

@@ -1,5 +1,5 @@
--- A run beside lists of sharers: its accesses, its messages, and what is counted of its events.
-use Rattle.std.specs.Prelude.{ℕ, Bool, true, false, ◌&&◌, nat_le, List, [], ◌∷◌, ◌++◌, slice_get, Option, Some, None, option_map}
+-- A run beside lists of sharers: its accesses, its messages, also by their kinds, and what is counted of its events.
+use Rattle.std.specs.Prelude.{ℕ, Bool, true, false, ◌&&◌, ◌||◌, nat_le, nat_lt, List, [], ◌∷◌, ◌++◌, slice_get, Option, Some, None, option_map}
 use Rattle.std.specs.List.{cons_option}
 use Rattle.dn_base.specs.declared.ids.CoreId.{CoreId}
 use Rattle.dn_base.specs.declared.ids.WordId.{WordId}
@@ -8,21 +8,24 @@ use Rattle.message_net.specs.declared.actor.Actor.TheVariants.{Core, Bank, Keepe
 use Rattle.message_net.specs.declared.event.Event.{Event}
 use Rattle.message_net.specs.declared.event.Event.TheVariants.{Instr, Handle}
 use Rattle.message_net.specs.declared.event.EventKind.{EventKind}
+use Rattle.message_net.specs.declared.event.EventKind as kind
 use Rattle.message_net.specs.declared.message.Mail.{Mail}
 use Rattle.message_net.specs.declared.message.Message.{Message}
-use Rattle.message_net.specs.declared.message.Message.TheVariants.{ReadReq, ReadFwd, DataReply, RegReq, RegFwd, RegAck, WriteBack, WbAck}
-use Rattle.message_net.specs.Kind.{kind_index}
+use Rattle.message_net.specs.declared.message.Message.TheVariants.{ReadReq, ReadFwd, DataReply, RegReq, RegFwd, RegAck, WriteBack, WbAck, Acquire, Release, Grant, Arrived, Go, Halt}
+use Rattle.message_net.specs.Kind.{kind_index, kind_of}
 use Rattle.message_net.specs.Pool.{removed}
 use Rattle.registration_protocol.specs.declared.node.NodeWait.{NodeWait}
 use Rattle.registration_protocol.specs.declared.node.NodeWait.TheVariants as wait
 use Rattle.registration_protocol.specs.Node.{NodeParts, Setting}
 use Rattle.machine_rules.specs.State.{State}
 use Rattle.machine_rules.specs.Next.{next}
-use Rattle.machine_rules.specs.Accesses.{Access, access_in}
+use Rattle.machine_rules.specs.Actions.{Access}
+use Rattle.machine_rules.specs.Accesses.{access_in}
 use Rattle.run_account.specs.declared.item.Item.{Item}
 use Rattle.run_account.specs.declared.item.Grouping.{Grouping}
 use Rattle.run_account.specs.declared.measure.Measure.{Measure}
-use Rattle.run_account.specs.declared.measure.Measure.TheVariants.{Messages}
+use Rattle.run_account.specs.Measure.{measure_index}
+use Rattle.run_account.specs.declared.measure.Measure.TheVariants.{Messages, ReadReqs, ReadFwds, DataReplies, RegReqs, RegFwds, RegAcks, WriteBacks, WbAcks, Acquires, Releases, Grants, Arrivals, Gos, Halts, ListReplyValues}
 use Rattle.run_account.specs.Items.{regions_from, groups_in, count_in, items_of_measure, sum_of_groups}
 use Rattle.run_account.specs.Tallies.{Tallies, no_tallies, with_items}
 use Rattle.run_account.specs.declared.access.AccessKind.{AccessKind}
@@ -32,7 +35,7 @@ use Rattle.run_account.specs.declared.cache.Line.{Line}
 use Rattle.run_account.specs.declared.cache.Share.{Share}
 use Rattle.run_account.specs.declared.cache.Share.TheVariants.{Shared, Owned}
 use Rattle.run_account.specs.Lists.{SharerLists, no_lists, share_of, lists_after}
-use Rattle.run_account.specs.Counts.{goes_for, access_items}
+use Rattle.run_account.specs.Counts.{access_item, goes_for, access_items}
 
 -- ---- accesses
 
@@ -95,18 +98,79 @@ abbrev pub served_mail_items : State → Option Mail → List Item
 served_mail_items S None = []
 served_mail_items S (Some m) = served_items S (served m.to m.message)
 
+-- ---- messages by their kinds
+
+-- the measure of the messages of a kind; a core's own event is no message
+abbrev pub kind_measure : EventKind → Option Measure
+kind_measure kind.TheVariants.Instr = None
+kind_measure kind.TheVariants.Evict = None
+kind_measure kind.TheVariants.Arrive = None
+kind_measure kind.TheVariants.ReadReq = Some ReadReqs
+kind_measure kind.TheVariants.ReadFwd = Some ReadFwds
+kind_measure kind.TheVariants.DataReply = Some DataReplies
+kind_measure kind.TheVariants.RegReq = Some RegReqs
+kind_measure kind.TheVariants.RegFwd = Some RegFwds
+kind_measure kind.TheVariants.RegAck = Some RegAcks
+kind_measure kind.TheVariants.WriteBack = Some WriteBacks
+kind_measure kind.TheVariants.WbAck = Some WbAcks
+kind_measure kind.TheVariants.Acquire = Some Acquires
+kind_measure kind.TheVariants.Release = Some Releases
+kind_measure kind.TheVariants.Grant = Some Grants
+kind_measure kind.TheVariants.Arrived = Some Arrivals
+kind_measure kind.TheVariants.Go = Some Gos
+kind_measure kind.TheVariants.Halt = Some Halts
+
+-- the core that a message serves, and its word, if it is about one: a message about a lock serves the core that asks for it, gives it up or
+-- gets it, and a message of the barrier the core that arrives or goes on
+abbrev pub told_core : Actor → Option (CoreId × Option WordId)
+told_core (Core core) = Some (core, None)
+told_core (Bank bank) = None
+told_core Keeper = None
+
+abbrev pub about_its_word : CoreId × WordId → CoreId × Option WordId
+about_its_word (core, word) = (core, Some word)
+
+abbrev pub carried : Actor → Message → Option (CoreId × Option WordId)
+carried to (Acquire lock core) = Some (core, None)
+carried to (Release lock core signature) = Some (core, None)
+carried to (Grant lock signature) = told_core to
+carried to (Arrived core bad) = Some (core, None)
+carried to (Go phase) = told_core to
+carried to Halt = told_core to
+carried to message = option_map about_its_word (served to message)
+
+-- a message counts for that core in its phase
+abbrev pub phase_in : Option NodeParts → ℕ
+phase_in None = 0
+phase_in (Some n) = n.phase
+
+abbrev pub carried_items : State → Option (CoreId × Option WordId) → Option Measure → List Item
+carried_items S None m = []
+carried_items S (Some (core, word)) None = []
+carried_items S (Some (core, word)) (Some m) =
+    record { measure = m; phase = record { 0 = phase_in (slice_get S.nodes core.0) }; core = core; word = word } ∷ []
+
+abbrev pub carried_mail_items : State → Option Mail → List Item
+carried_mail_items S None = []
+carried_mail_items S (Some m) = carried_items S (carried m.to m.message) (kind_measure (kind_of m.message))
+
 -- ---- what is counted of an event, and the lists after it
+
+-- with lists a reply brings the word's value to a core that has no copy of it
+abbrev pub value_items : CountedAccess → Option Share → List Item
+value_items a None = access_item a a.word ListReplyValues ∷ []
+value_items a (Some held) = []
 
 abbrev pub items_of : SharerLists → Option CountedAccess → List Item
 items_of L None = []
-items_of L (Some a) = access_items L a
+items_of L (Some a) = value_items a (share_of L a.core.0 a.word.0) ++ access_items L a
 
 abbrev pub lists_with : SharerLists → Option CountedAccess → SharerLists
 lists_with L None = L
 lists_with L (Some a) = lists_after L a
 
 unfoldable pub event_items : State → SharerLists → Event → List Item
-event_items S L (Handle id) = served_mail_items S (removed id S.mails).0
+event_items S L (Handle id) = served_mail_items S (removed id S.mails).0 ++ carried_mail_items S (removed id S.mails).0
 event_items S L (Instr core) = items_of L (counted_in S (Instr core))
 event_items S L _ = []
 
@@ -142,6 +206,10 @@ sum_beside by m S events =
     sum_of_groups (regions_from 0 S.setting.program.regions) by (groups_in S.setting.program S.setting.shape.cores by) m (listed_of_run S events)
 
 -- ---- what the laws speak of
+
+-- whether each item of a measure has a word: all but those of messages about locks and of the barrier
+abbrev pub is_about_words : Measure → Bool
+is_about_words m = nat_lt (measure_index m) 51 || nat_lt 56 (measure_index m)
 
 -- the kinds of the mails by which words are read, registered and written back
 abbrev pub is_about_word : EventKind → Bool

@@ -16,7 +16,7 @@ pub record Tallies : Type 0 where
 -- no item of any measure in any group
 abbrev pub no_tallies : ProgramParts → ℕ → Grouping → Tallies
 no_tallies P cores by =
-    record { by = by; regions = regions_from 0 P.regions; numbers = replicate (groups_in P cores by) (replicate 43 0) }
+    record { by = by; regions = regions_from 0 P.regions; numbers = replicate (groups_in P cores by) (replicate 58 0) }
 
 -- the number of a measure in a group
 abbrev pub tally_of : Measure → ℕ → Tallies → ℕ

@@ -38,7 +38,7 @@ pub(crate) fn push_right(out: &mut Vec<u8>, text: &[u8]) -> Result<(), Memory>
 }
 
 /// Adds a number's cell.
-fn push_number(out: &mut Vec<u8>, number: u64) -> Result<(), Memory>
+pub(crate) fn push_number(out: &mut Vec<u8>, number: u64) -> Result<(), Memory>
     ensures { OnOk result (out.new.items ≡ out.old.items ++ right_cell (decimal number)) }
 {
     let mut digits = Buffer::new();
@@ -89,7 +89,7 @@ pub(crate) fn push_tally(
 }
 
 /// Adds the numbers of a measure in this many groups.
-fn push_numbers(
+pub(crate) fn push_numbers(
     out: &mut Vec<u8>,
     table: &AccountTable,
     measure: Measure,
@@ -104,7 +104,11 @@ fn push_numbers(
 }
 
 #[tactic(auto, unfolding(crate::specs::Forms::names_row))]
-fn push_head(out: &mut Vec<u8>, program: &Program, table: &AccountTable) -> Result<(), Memory>
+pub(crate) fn push_head(
+    out: &mut Vec<u8>,
+    program: &Program,
+    table: &AccountTable,
+) -> Result<(), Memory>
     ensures { OnOk result (out.new.items ≡ out.old.items ++ names_row program.now table.now) }
 {
     push_left(out, grouping_name(table.by()))?;

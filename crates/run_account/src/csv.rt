@@ -11,7 +11,7 @@ use region_table::Program;
 use text_pieces::{push, push_long};
 
 #[tactic(auto, unfolding(crate::specs::Forms::csv_head))]
-fn push_csv_head(out: &mut Vec<u8>) -> Result<(), Memory>
+pub(crate) fn push_csv_head(out: &mut Vec<u8>) -> Result<(), Memory>
     ensures { OnOk result (out.new.items ≡ out.old.items ++ csv_head) }
 {
     push(out, b"measure,group,count")?;
@@ -31,7 +31,7 @@ fn push_fields(out: &mut Vec<u8>, measure: &[u8], group: &[u8], count: u64) -> R
 }
 
 /// Whether a number has a line.
-fn has_line(by: Grouping, count: u64) -> bool
+pub(crate) fn has_line(by: Grouping, count: u64) -> bool
     ensures { result ≡ has_csv_line by count }
 {
     match by {
@@ -41,7 +41,7 @@ fn has_line(by: Grouping, count: u64) -> bool
 }
 
 /// Adds the line of a measure, a group and a count.
-fn push_named(
+pub(crate) fn push_named(
     out: &mut Vec<u8>,
     program: &Program,
     by: Grouping,

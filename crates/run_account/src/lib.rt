@@ -30,6 +30,9 @@ mod served;
 mod table;
 mod table_laws;
 mod text;
+mod traffic;
+mod traffic_laws;
+mod traffic_row;
 
 pub use access::{AccessKind, CountedAccess};
 pub use account::Account;
@@ -57,4 +60,6 @@ pub use table::AccountTable;
 pub use table_laws::{
     a_number_is_a_count, a_word_is_in_its_region, groups_add_up, items_are_counted_list_by_list,
 };
-pub use text::{push_account, push_lists};
+pub use text::{push_account, push_lists, push_traffic};
+pub use traffic_laws::{bytes_are_those_of_the_messages, each_message_is_counted_for_its_kind};
+pub use traffic_row::TrafficRow;

@@ -1,6 +1,6 @@
 //! What holds of every run beside lists of sharers, for readers of its numbers. A theorem is a function without effect; its
 //! contract states the theorem.
-ghost use Rattle.std.specs.Prelude.{◌≡◌, ◌≢◌, ℕ, ◌+◌, ◌<◌, ◌≤◌, [], List, length, count_by, slice_index_or, Some, None};
+ghost use Rattle.std.specs.Prelude.{◌≡◌, ◌≢◌, ℕ, ◌+◌, ◌<◌, ◌≤◌, [], List, length, count_by, slice_index_or, true, Some, None};
 ghost use Rattle.message_net.specs.declared.event.Event.{Event};
 ghost use Rattle.registration_protocol.specs.Node.{Setting};
 ghost use Rattle.machine_rules.specs.State.{State, initial_state};
@@ -13,7 +13,7 @@ ghost use Rattle.run_account.specs.Items.{groups_in};
 ghost use Rattle.run_account.specs.Tallies.{tally_of, capped};
 ghost use Rattle.run_account.specs.declared.cache.Share.TheVariants.{Owned};
 ghost use Rattle.run_account.specs.Lists.{share_of, cache_of};
-ghost use Rattle.run_account.specs.Runs.{lists_in_run, number_with_lists, number_of_both, sum_beside, is_about_word, gone_in_run, is_shared_line, nothing_listed, count_of_run};
+ghost use Rattle.run_account.specs.Runs.{lists_in_run, number_with_lists, number_of_both, sum_beside, is_about_word, is_about_words, gone_in_run, is_shared_line, nothing_listed, count_of_run};
 
 /// Where a core has a word Owned, no other core has the word.
 pub fn an_owner_is_alone()
@@ -58,9 +58,10 @@ pub fn waits_alone_are_the_difference()
         ≡ number_with_lists by WaitsRead group S events + number_with_lists by WaitsWrite group S events + number_with_lists by WaitsListAlone group S events }
 {}
 
-/// In a run of the machine of a checked program the numbers of all groups add up to those of the run.
+/// In a run of the machine of a checked program the numbers of all groups add up to those of the run, for every measure except those of
+/// the messages about locks and of the barrier, which have no word.
 pub fn groups_beside_lists_add_up()
-    ensures { (C : Setting) (events : List Event) (by : Grouping) (m : Measure) → IsReady C → IsRun (initial_state C) events
+    ensures { (C : Setting) (events : List Event) (by : Grouping) (m : Measure) → is_about_words m ≡ true → IsReady C → IsRun (initial_state C) events
         → sum_beside by m (initial_state C) events ≡ number_of_both m (initial_state C) events }
 {}
 

@@ -1,19 +1,34 @@
 //! An event is noted.
-ghost use Rattle.std.specs.Prelude.{◌≡◌, ◌+◌, ◌≤◌, true, false, length, Some, Ok, IfOk, OnOk, IfSome, IfNone};
+ghost use Rattle.std.specs.Prelude.{◌≡◌, ◌+◌, ◌≤◌, ◌++◌, true, false, length, slice_get, Some, Ok, IfOk, OnOk, IfSome, IfNone};
 ghost use Rattle.message_net.specs.declared.event.Event.TheVariants as event;
 ghost use Rattle.message_net.specs.Pool.{removed};
 ghost use Rattle.run_account.specs.Tallies.{with_items};
+ghost use Rattle.run_account.specs.Lists.{share_of, lists_after};
 ghost use Rattle.machine_rules.specs.Runs.{IsRun};
-ghost use Rattle.run_account.specs.Runs.{served_mail_items, served_items, nothing_listed, listing, listed_after, count_of_run};
+ghost use Rattle.run_account.specs.Runs.{served_mail_items, served_items, phase_in, carried_mail_items, value_items, items_of, nothing_listed, listing, listed_after, count_of_run};
 
+use crate::access::CountedAccess;
 use crate::listing::Listing;
 use crate::retired::access_retired;
-use crate::served::core_served;
+use crate::served::{core_carried, core_served, measure_of_kind};
 use crate::{Grouping, Item, Measure};
-use dn_base::{CoreId, Memory, WordId};
+use dn_base::{CoreId, Memory, PhaseId, WordId};
 use dn_machine::{Machine, a_machine_is_kept};
 use message_net::{Event, Mail, MailId};
 use std::alloc::Global;
+
+/// The phase of a core.
+fn phase_of(machine: &Machine, core: CoreId) -> PhaseId
+    ensures { result.0 ≡ phase_in (slice_get machine.now.state.nodes core.0) }
+{
+    // for the proof alone: there are as many nodes as cores
+    a_machine_is_kept(machine);
+    if core.0 < machine.shape().cores {
+        machine.node(core).phase()
+    } else {
+        PhaseId(0)
+    }
+}
 
 impl Listing {
     /// Counts a message about a word that serves a core.
@@ -40,14 +55,55 @@ impl Listing {
         }
     }
 
+    /// Counts a message by its kind.
+    fn note_kind(&mut self, machine: &Machine, mail: Mail)
+        ensures { self.new ≡ listing self.old (carried_mail_items machine.now.state (Some mail)) }
+    {
+        if let Some((core, word)) = core_carried(mail.to, mail.message) {
+            if let Some(measure) = measure_of_kind(mail.message.kind()) {
+                self.table.add(Item {
+                    measure,
+                    phase: phase_of(machine, core),
+                    core,
+                    word,
+                });
+            }
+        }
+    }
+
+    /// Counts a message: one about a word as a message, and each by its kind.
+    fn note_both(&mut self, machine: &Machine, mail: Mail)
+        ensures { self.new ≡ listing self.old (served_mail_items machine.now.state (Some mail) ++ carried_mail_items machine.now.state (Some mail)) }
+    {
+        self.note_mail(machine, mail);
+        self.note_kind(machine, mail);
+    }
+
     /// Notes the handling of the message with this id, if it is in flight.
     fn note_handle(&mut self, machine: &Machine, id: MailId)
-        ensures { self.new ≡ listing self.old (served_mail_items machine.now.state (removed id machine.now.state.mails).0) }
+        ensures { self.new ≡ listing self.old (served_mail_items machine.now.state (removed id machine.now.state.mails).0 ++ carried_mail_items machine.now.state (removed id machine.now.state.mails).0) }
     {
         let pool = machine.pool();
         if let Some(place) = pool.place_of(id) {
-            self.note_mail(machine, pool.at(place));
+            self.note_both(machine, pool.at(place));
         }
+    }
+
+    /// Counts the reply that brings the value of a word of which the core has no copy.
+    fn note_value(&mut self, access: &CountedAccess)
+        ensures { self.new ≡ listing self.old (value_items access.now (share_of self.old.lists access.now.core.0 access.now.word.0)) }
+    {
+        if self.lists.share(access.core, access.word).is_none() {
+            self.count(access, access.word, Measure::ListReplyValues);
+        }
+    }
+
+    /// Notes an access that retires.
+    fn note_retired(&mut self, access: &CountedAccess) -> Result<(), Memory>
+        ensures { OnOk result (self.new ≡ record { tallies = with_items self.old.tallies (items_of self.old.lists (Some access.now)); lists = lists_after self.old.lists access.now }) }
+    {
+        self.note_value(access);
+        self.note_access(access)
     }
 
     fn note_instr(&mut self, machine: &Machine, core: CoreId) -> Result<(), Memory>
@@ -57,7 +113,7 @@ impl Listing {
         a_machine_is_kept(machine);
         if core.0 < machine.shape().cores {
             if let Some(access) = access_retired(machine, core, machine.node(core)) {
-                self.note_access(&access)?;
+                self.note_retired(&access)?;
             }
         }
         Ok(())

@@ -1,8 +1,8 @@
 ghost use Rattle.std.specs.Prelude.{◌≡◌, ◌<◌};
 ghost use Rattle.run_account.specs.Measure.{measure_index};
 
-/// What is counted of a run, in the order in which it is printed: first the twenty-six measures of an account, and then the
-/// seventeen of a run beside lists of sharers. A copy is a Valid entry.
+/// What is counted of a run, in the order in which it is printed: first the twenty-six measures of an account, then the
+/// seventeen of a run beside lists of sharers, and the fifteen of its traffic. A copy is a Valid entry.
 #[derive(Clone, Copy)]
 pub enum Measure {
     /// Loads that retire.
@@ -93,13 +93,44 @@ pub enum Measure {
     WaitsHereAlone,
     /// Loads and stores that wait with lists and didn't wait in the run.
     WaitsListAlone,
+    /// ReadReq messages that are handled. A message of this and of the next thirteen kinds counts for the core that it serves, in the
+    /// phase of that core.
+    ReadReqs,
+    /// ReadFwd messages that are handled.
+    ReadFwds,
+    /// DataReply messages that are handled.
+    DataReplies,
+    /// RegReq messages that are handled.
+    RegReqs,
+    /// RegFwd messages that are handled.
+    RegFwds,
+    /// RegAck messages that are handled.
+    RegAcks,
+    /// WriteBack messages that are handled.
+    WriteBacks,
+    /// WbAck messages that are handled.
+    WbAcks,
+    /// Acquire messages that are handled.
+    Acquires,
+    /// Release messages that are handled.
+    Releases,
+    /// Grant messages that are handled.
+    Grants,
+    /// Arrived messages that are handled.
+    Arrivals,
+    /// Go messages that are handled.
+    Gos,
+    /// Halt messages that are handled.
+    Halts,
+    /// Replies to requests with lists that bring the word's value: all but those to a store of a core that has the word Shared.
+    ListReplyValues,
 }
 
 impl Measure {
-    /// The index of the measure among the forty-three.
+    /// The index of the measure among the fifty-eight.
     pub fn index(self) -> usize
         ensures value { result ≡ measure_index self }
-        ensures within { result < 43 }
+        ensures within { result < 58 }
     {
         self as usize
     }

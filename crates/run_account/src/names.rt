@@ -155,6 +155,21 @@ pub(crate) fn measure_name(measure: Measure) -> &'static [u8]
         Measure::ListWaitsWrite => b"list-waits-write",
         Measure::WaitsHereAlone => b"waits-here-alone",
         Measure::WaitsListAlone => b"waits-list-alone",
+        Measure::ReadReqs => b"read-req",
+        Measure::ReadFwds => b"read-fwd",
+        Measure::DataReplies => b"data-reply",
+        Measure::RegReqs => b"reg-req",
+        Measure::RegFwds => b"reg-fwd",
+        Measure::RegAcks => b"reg-ack",
+        Measure::WriteBacks => b"write-back",
+        Measure::WbAcks => b"wb-ack",
+        Measure::Acquires => b"acquire",
+        Measure::Releases => b"release",
+        Measure::Grants => b"grant",
+        Measure::Arrivals => b"arrived",
+        Measure::Gos => b"go",
+        Measure::Halts => b"halt",
+        Measure::ListReplyValues => b"list-reply-values",
     }
 }
 

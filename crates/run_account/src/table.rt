@@ -10,7 +10,7 @@ use std::alloc::Global;
 use std::marker::Model;
 
 /// The numbers of one group by the index of a measure.
-type Numbers = [u64; 43];
+type Numbers = [u64; 58];
 
 /// How many items of each measure there were in each group.
 ///
@@ -56,11 +56,11 @@ fn regions_of(alloc: Global, regions: &[Region]) -> Result<Sequence<u32>, Memory
 
 /// No item of any measure, in this many groups.
 fn no_numbers(alloc: Global, groups: usize) -> Result<Vec<Numbers>, Memory>
-    ensures { IfOk result (λ numbers. numbers.items ≡ replicate groups (replicate 43 0)) }
+    ensures { IfOk result (λ numbers. numbers.items ≡ replicate groups (replicate 58 0)) }
 {
     let mut numbers = Vec::new(alloc);
     for _group in 0..groups {
-        numbers.push([0; 43])?;
+        numbers.push([0; 58])?;
     }
     Ok(numbers)
 }
@@ -79,7 +79,7 @@ fn groups(program: &Program, cores: u32, by: Grouping) -> usize
 
 /// One more of the measure at an index.
 fn raise(row: &mut Numbers, index: usize)
-    requires { index < 43 }
+    requires { index < 58 }
     ensures { row.new ≡ one_more_at index row.old }
 {
     row[index] = row[index].saturating_add(1);
@@ -87,7 +87,7 @@ fn raise(row: &mut Numbers, index: usize)
 
 /// One more of the measure at an index in a group, where there is one.
 fn raise_in(numbers: &mut Vec<Numbers>, group: Option<u32>, index: usize)
-    requires { index < 43 }
+    requires { index < 58 }
     ensures { numbers.new.items ≡ raised_in group index numbers.old.items }
 {
     if let Some(group) = group {

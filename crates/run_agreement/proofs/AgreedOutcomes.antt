@@ -25,6 +25,8 @@ use Rattle.word_cache.specs.declared.row.Entry.TheVariants.{Valid, Registered}
 use Rattle.write_signature.specs.declared.signature.Signature.{Signature}
 use Rattle.registration_protocol.specs.Node.{NodeParts, entry_of}
 use Rattle.registration_protocol.specs.Messages.{holds_now}
+use Rattle.machine_rules.specs.Actions.{Action}
+use Rattle.machine_rules.specs.Fair.{Request}
 use Rattle.machine_rules.specs.State.{State}
 use Rattle.machine_rules.specs.Next.{next, seen_in, granted_in}
 use Rattle.machine_rules.specs.Flight.{flight, is_grant_to}
@@ -158,9 +160,9 @@ own-merged S M core n d t word false old pending inv acts is =
 
 -- ---- grants
 
-takes-lock : {E : Ends} (S : State) (M : ℕ → ℕ) (e : Event) (gs : List Granted) (L : Loads) (core : CoreId) (n : NodeParts) (d : TaskDecl) (t : TaskState) (lock : LockId) (s : Signature)
+takes-lock : {E : Ends} {synchronization : Option Action} {request : Option Request} (S : State) (M : ℕ → ℕ) (e : Event) (gs : List Granted) (L : Loads) (core : CoreId) (n : NodeParts) (d : TaskDecl) (t : TaskState) (lock : LockId) (s : Signature)
     → Invariant S M → (h : Agreed S M gs L E) → IsAtWork S core.0 n d t → t.end ≡ None → need_of S.setting.program d S.setting.fuel t ≡ need.TheVariants.Acquire lock
-    → Tells S e None (Some (record { phase = record { 0 = n.phase }; core = core; lock = lock })) None
+    → Tells S e None (Some (record { phase = record { 0 = n.phase }; core = core; lock = lock })) None synchronization request
     → NodeStep S (next S e) core.0 n (holds_now S.setting n t lock s).0 (at_core core (Grant lock s)) None → AgreedNext S e gs L E M
 takes-lock {E} S M e gs L core n d t lock s inv h works open' wants told step =
     let g : Granted = record { phase = record { 0 = n.phase }; core = core; lock = lock } in
@@ -238,7 +240,7 @@ agreed-outcomes {E} S M e gs L inv last h =
     home : seen_in S e ≡ None → granted_in S e ≡ None → (next S e).setting ≡ S.setting → (next S e).nodes ≡ S.nodes → (next S e).keeper ≡ S.keeper → AgreedNext S e gs L E M
     home seen granted setting nodes keeper = kept seen granted (still-agreed S (next S e) M gs L setting nodes (ap (λ (k : Barrier). k.phase) keeper) h)
 
-    plainly : (core : CoreId) (n m : NodeParts) (d : TaskDecl) (t t' : TaskState) (sent : Option Outgoing) (needs : Need) → IsActing S core n d t needs → Tells S e None None None
+    plainly : {synchronization : Option Action} {request : Option Request} (core : CoreId) (n m : NodeParts) (d : TaskDecl) (t t' : TaskState) (sent : Option Outgoing) (needs : Need) → IsActing S core n d t needs → Tells S e None None None synchronization request
         → NodeStep S (next S e) core.0 n m None sent → m.phase ≡ n.phase → m.task ≡ Some t'
         → ((k : ℕ) → step_by S.setting.program (at_memory (task_of k d t (L n.phase core.0)) h.memory) (Some needs) ≡ at_memory (task_of k d t' (L n.phase core.0)) h.memory) → AgreedNext S e gs L E M
     plainly core n m d t t' sent needs acts told step phase task goes =

@@ -26,7 +26,7 @@ use Rattle.machine_rules.specs.Sound.{IsReady}
 use Rattle.machine_rules.proofs.Invariant.{Invariant}
 use Rattle.machine_rules.proofs.RunsCoherent.{run-all}
 use Rattle.machine_rules.proofs.RestNodes.{mail-enabled}
-use Rattle.run_agreement.specs.Reached.{IsHandling, IsEmptied, AcquiresNothing, AllAlong, IsCompleted}
+use Rattle.run_agreement.specs.Reached.{IsHandling, IsEmptied, IsHandledOut, AcquiresNothing, AllAlong, IsCompleted}
 use Rattle.run_agreement.proofs.Appending.{after-append, run-append}
 use Rattle.run_agreement.proofs.Growing.{Grows, Chooses, grow}
 
@@ -236,3 +236,17 @@ pub emptied : (C : Setting) (events : List Event) → IsReady C → IsRun (initi
 emptied C events ready run =
     let g : Grows (after (initial_state C) events) Handles IsEmpty = grow C Handles IsEmpty ready (λ es way. choose-mail (after (initial_state C) es) Handles IsEmpty (λ m. tt) (λ empty. inl empty)) events run in
     record { events = g.events; run = g.run; handles = all-handle (after (initial_state C) events) g.events g.fine; empty = g.done }
+
+-- where no message can be handled none is in flight
+none-left : (S : State) → ((e : Event) → IsHandling e → enabled S e ≡ false) → S.mails ≡ []
+none-left S over = by_mails S.mails refl where
+  by_mails : (ms : List Mail) → S.mails ≡ ms → S.mails ≡ []
+  by_mails [] is = is
+  by_mails (m ∷ ms) is =
+      let may = mail-enabled S m (ap (λ (xs : List Mail). slice_get xs 0) is) in
+      let never = over (Handle m.id) tt in
+      absurd (cc)
+
+pub emptied-always : (C : Setting) (events handled : List Event) → IsReady C → IsRun (initial_state C) events → IsHandledOut (after (initial_state C) events) handled
+    → (after (after (initial_state C) events) handled).mails ≡ []
+emptied-always C events handled ready run out = none-left (after (after (initial_state C) events) handled) out.over

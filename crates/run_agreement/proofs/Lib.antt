@@ -13,6 +13,8 @@ pub mod Granting
 mod Growing
 pub mod Halting
 pub mod Holding
+mod Interleaved
+mod Interleaves
 pub mod Keeping
 pub mod MoreFuel
 mod NextGrant

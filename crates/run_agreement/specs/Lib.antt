@@ -4,3 +4,4 @@ pub mod Ends
 pub mod Fronts
 pub mod Reached
 pub mod Worlds
+pub mod Interleaving

@@ -29,6 +29,12 @@ pub record IsEmptied (S : State) : Type 0 where
   pub handles : All IsHandling events
   pub empty : (after S events).mails ≡ []
 
+-- a run from S in which messages are handled, and nothing else comes, until no message can be handled any more
+pub record IsHandledOut (S : State) (events : List Event) : Type 0 where
+  pub run : IsRun S events
+  pub handles : All IsHandling events
+  pub over : (e : Event) → IsHandling e → enabled (after S events) e ≡ false
+
 -- an event isn't an acquire: the instruction by which a core asks for a lock
 abbrev pub AcquiresNothing : State → Event → Type 0
 AcquiresNothing S (Instr core) = (n : NodeParts) (lock : LockId) → slice_get S.nodes core.0 ≡ Some n → need_now S.setting n ≡ Some (Acquire lock) → ⊥

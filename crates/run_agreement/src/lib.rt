@@ -6,6 +6,7 @@
 #![tactic(auto)]
 
 mod core_laws;
+mod interleaving_laws;
 mod laws;
 mod reached_laws;
 
@@ -18,6 +19,10 @@ pub use core_laws::{
     the_loads_of_a_task_are_a_front_of_its_loads_in_the_run, the_next_phase_is_agreed,
     what_a_core_acquires_is_the_next_grant, what_a_core_does_keeps_the_run,
     what_changes_no_task_keeps_the_run,
+};
+pub use interleaving_laws::{
+    the_flat_machine_does_exactly_what_interleavings_do,
+    the_machine_does_exactly_what_interleavings_do,
 };
 pub use laws::{
     every_complete_run_has_the_end_of_the_flat_run,

@@ -1,5 +1,5 @@
 //! Theorems: which runs of the machine there are. A theorem is a function without effect; its contract states the theorem.
-ghost use Rattle.std.specs.Prelude.{◌≡◌, ◌≢◌, ◌↔◌, List, Some, None};
+ghost use Rattle.std.specs.Prelude.{◌≡◌, ◌≢◌, ◌↔◌, List, [], Some, None};
 ghost use Rattle.dn_base.specs.declared.ids.Grant.{Grant};
 ghost use Rattle.rv_core.specs.declared.ending.Ending.{Ending};
 ghost use Rattle.message_net.specs.declared.event.Event.{Event};
@@ -10,11 +10,14 @@ ghost use Rattle.registration_protocol.specs.Node.{Setting};
 ghost use Rattle.machine_rules.specs.State.{initial_state};
 ghost use Rattle.machine_rules.specs.Runs.{after, IsRun};
 ghost use Rattle.machine_rules.specs.Sound.{IsReady};
-ghost use Rattle.run_agreement.specs.Reached.{IsEmptied, ComesToLocks, StandsAtLocks, IsOverButForLocks, IsCompleted, HasGrants, HasRunBy, CanEnd, FlatCanEnd};
+ghost use Rattle.run_agreement.specs.Reached.{IsEmptied, IsHandledOut, ComesToLocks, StandsAtLocks, IsOverButForLocks, IsCompleted, HasGrants, HasRunBy, CanEnd, FlatCanEnd};
 
-/// From every state that a run reaches, handling messages alone leads to a state with no message in flight.
+/// From every state that a run reaches, handling messages alone leads to a state with no message in flight: in some way, and in
+/// every way that goes on until no message can be handled any more.
 pub fn handling_messages_empties_the_network()
-    ensures { (C : Setting) (events : List Event) → IsReady C → IsRun (initial_state C) events → IsEmptied (after (initial_state C) events) }
+    ensures some { (C : Setting) (events : List Event) → IsReady C → IsRun (initial_state C) events → IsEmptied (after (initial_state C) events) }
+    ensures every { (C : Setting) (events handled : List Event) → IsReady C → IsRun (initial_state C) events → IsHandledOut (after (initial_state C) events) handled
+        → (after (after (initial_state C) events) handled).mails ≡ [] }
 {}
 
 /// Nothing but a lock or the barrier holds a core up. Where only acquires are enabled, no message is in flight, and each core is

@@ -44,7 +44,3 @@ IsUnfit text line = IsNoProgram text line ⊎ HasProgram text (λ P. IsInConflic
 abbrev pub IsStop : (List ℕ → Type 0) → Stop → Type 0
 IsStop IsLine (stop.TheVariants.Refused line) = IsLine line
 IsStop IsLine stop.TheVariants.Memory = Unit {0}
-
--- the line that refuses command words
-abbrev pub usage_line : List ℕ
-usage_line = refusal_of refusal.TheVariants.Usage

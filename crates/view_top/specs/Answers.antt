@@ -21,7 +21,7 @@ use Rattle.run_account.specs.Tallies.{Tallies}
 use Rattle.run_account.specs.Account.{no_account, account_of_run}
 use Rattle.run_account.specs.declared.form.Form.{Form}
 use Rattle.run_account.specs.declared.form.Form as form
-use Rattle.run_account.specs.Forms.{account_text, lists_text}
+use Rattle.run_account.specs.Forms.{account_text, lists_text, traffic_text}
 use Rattle.run_account.specs.Runs.{nothing_listed, count_of_run}
 use Rattle.run_chart.specs.declared.parts.Chart.{Chart}
 use Rattle.run_chart.specs.Picture.{svg_of}
@@ -42,6 +42,8 @@ use Rattle.program_outside.specs.Serving.{usage_line}
 use Rattle.checked_runs.specs.Documents.{IsRefusedDocument, HasTrace, IsNoDocument, IsRunTold, shape_told}
 use Rattle.checked_runs.specs.Runs.{reported}
 use Rattle.view_top.specs.Status.{Output}
+use Rattle.view_top.specs.declared.lists.Numbers.{Numbers}
+use Rattle.view_top.specs.declared.lists.Numbers as numbers
 use Rattle.view_top.specs.declared.options.View.{View}
 use Rattle.view_top.specs.declared.options.View.TheVariants as view
 use Rattle.view_top.specs.declared.options.ChartOptions.{ChartOptions}
@@ -145,11 +147,16 @@ pub record IsListingOf (P : ProgramParts) (shape : Shape) (fuel : ℕ) (events :
   pub setting_is : IsSettingOf P shape fuel setting
   pub is : tallies ≡ (count_of_run (initial_state setting) (nothing_listed setting by) events).tallies
 
--- the output is the run beside lists, in the groups and in the form that the options ask for
-pub record IsBeside (P : ProgramParts) (s : TraceShape) (o : AccountOptions) (r : RunRecord) (out : Output) : Type 0 where
+-- which of these numbers are printed: those of the run beside lists, or those of its traffic
+abbrev pub text_of_numbers : Numbers → Form → ProgramParts → Tallies → List ℕ
+text_of_numbers numbers.TheVariants.Lists form P t = lists_text form P t
+text_of_numbers numbers.TheVariants.Traffic form P t = traffic_text form P t
+
+-- the output is the run beside lists, or its traffic, in the groups and in the form that the options ask for
+pub record IsBeside (which : Numbers) (P : ProgramParts) (s : TraceShape) (o : AccountOptions) (r : RunRecord) (out : Output) : Type 0 where
   pub tallies : Tallies
   pub counted : IsListingOf P (shape_told P s) s.fuel r.events o.by tallies
-  pub answer : out ≡ made (heading_of o.form r ++ lists_text o.form P tallies)
+  pub answer : out ≡ made (heading_of o.form r ++ text_of_numbers which o.form P tallies)
 
 -- ---- a state
 
@@ -248,7 +255,8 @@ IsToldAsData P s text o r out = AreDataTold P s text o r out ⊎ IsPastEnd o.fir
 abbrev pub view_made : View → List ℕ → Output → Type 0
 view_made (view.Chart o) document out = HasKeptRun document (λ L t r. IsDrawn L t.shape o r out)
 view_made (view.Account o) document out = HasKeptRun document (λ L t r. IsAccount L.program t.shape o r out)
-view_made (view.Lists o) document out = HasKeptRun document (λ L t r. IsBeside L.program t.shape o r out)
+view_made (view.Lists o) document out = HasKeptRun document (λ L t r. IsBeside numbers.TheVariants.Lists L.program t.shape o r out)
+view_made (view.Traffic o) document out = HasKeptRun document (λ L t r. IsBeside numbers.TheVariants.Traffic L.program t.shape o r out)
 view_made (view.State o) document out = HasTrace document (λ t. HasChecked t.text (λ P. IsStateShown P t o out))
 view_made (view.Answer o) document out = HasKeptRun document (λ L t r. IsForReaders L t.text o r out)
 view_made (view.Page o) document out = HasKeptRun document (λ L t r. IsPaged L.program t.shape t.text o r out)
@@ -260,6 +268,7 @@ abbrev pub view_refused : View → List ℕ → List ℕ → Type 0
 view_refused (view.Chart o) document line = IsRefusedDocument document line
 view_refused (view.Account o) document line = IsRefusedDocument document line
 view_refused (view.Lists o) document line = IsRefusedDocument document line
+view_refused (view.Traffic o) document line = IsRefusedDocument document line
 view_refused (view.State o) document line = IsWithoutProgram document line
 view_refused (view.Answer o) document line = IsRefusedDocument document line
 view_refused (view.Page o) document line = IsRefusedDocument document line

@@ -135,7 +135,7 @@ grouping_in rows = option_and_then grouping_named (first_of (codes "by") rows)
 abbrev pub form_in : List Row → Option Form
 form_in rows = option_and_then form_named (first_of (codes "form") rows)
 
--- what an account is asked, and a run beside lists
+-- what an account is asked, a run beside lists, and its traffic
 unfoldable pub account_options_from : List Row → Option AccountOptions
 account_options_from rows =
     option_and_then (λ (grouping : Grouping).
@@ -197,6 +197,7 @@ view_named chart account state answer page text =
     if bytes_eq text (codes "chart") then option_map view.TheVariants.Chart chart
     else if bytes_eq text (codes "account") then Some (view.TheVariants.Account account)
     else if bytes_eq text (codes "lists") then Some (view.TheVariants.Lists account)
+    else if bytes_eq text (codes "traffic") then Some (view.TheVariants.Traffic account)
     else if bytes_eq text (codes "state") then Some (view.TheVariants.State state)
     else if bytes_eq text (codes "answer") then Some (view.TheVariants.Answer answer)
     else if bytes_eq text (codes "page") then Some (view.TheVariants.Page page)
@@ -271,11 +272,12 @@ IsPageInRange o = AreEventsInRange 20000 o
 abbrev pub IsDataInRange : PageOptions → Type 0
 IsDataInRange o = AreEventsInRange 4294967295 o
 
--- each number of a mode is; an account, lists, a state and an answer have none that is limited
+-- each number of a mode is; an account, lists, traffic, a state and an answer have none that is limited
 abbrev pub IsViewInRange : View → Type 0
 IsViewInRange (view.TheVariants.Chart o) = IsChartInRange o
 IsViewInRange (view.TheVariants.Account o) = Unit {0}
 IsViewInRange (view.TheVariants.Lists o) = Unit {0}
+IsViewInRange (view.TheVariants.Traffic o) = Unit {0}
 IsViewInRange (view.TheVariants.State o) = Unit {0}
 IsViewInRange (view.TheVariants.Answer o) = Unit {0}
 IsViewInRange (view.TheVariants.Page o) = IsPageInRange o

@@ -7,7 +7,7 @@ use crate::View;
 use crate::accounts::account_document;
 use crate::answers::answer_document;
 use crate::charts::draw_document;
-use crate::lists::lists_document;
+use crate::lists::{Numbers, lists_document};
 use crate::pages::page_document;
 use crate::run_data::data_document;
 use crate::states::show_state;
@@ -54,7 +54,8 @@ fn view_made(alloc: Global, view: &View, document: &[u8]) -> Result<Output, Stop
     match view {
         View::Chart(options) => draw_document(alloc, options, document),
         View::Account(options) => account_document(alloc, options, document),
-        View::Lists(options) => lists_document(alloc, options, document),
+        View::Lists(options) => lists_document(alloc, Numbers::Lists, options, document),
+        View::Traffic(options) => lists_document(alloc, Numbers::Traffic, options, document),
         View::State(options) => show_state(alloc, options, document),
         View::Answer(options) => answer_document(alloc, options, document),
         View::Page(options) => page_document(alloc, options, document),
@@ -69,7 +70,7 @@ fn view_made(alloc: Global, view: &View, document: &[u8]) -> Result<Output, Stop
 /// events of the run's longest chain of dependent events, by the options' ticks, are marked. If the first row would be after the
 /// run's last event, the words are refused. In the mode account the answer is the account of the run, in the groups and the form
 /// of the options; as a text it follows the report of the run, which is what the mode run of denovo prints. In the mode lists it
-/// is the run beside lists of sharers, in the same groups and forms.
+/// is the run beside lists of sharers, in the same groups and forms, and in the mode traffic its messages by their kinds and their bytes.
 ///
 /// In the mode state the answer is the state before the event that the options ask for, and which events are enabled there. This
 /// mode also takes documents whose events are no complete run. If one of the events before the asked one is not enabled, the

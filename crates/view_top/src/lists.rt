@@ -1,12 +1,10 @@
-//! The mode lists: a run beside lists of sharers, in numbers.
+//! The modes lists and traffic: a run beside lists of sharers, in numbers.
 ghost use Rattle.std.specs.Prelude.{◌≡◌, ◌+◌, ◌≤◌, ◌++◌, length, IfOk, IfErr, OnOk};
 ghost use Rattle.machine_rules.specs.Runs.{IsRun};
-ghost use Rattle.run_account.specs.Forms.{lists_text};
 ghost use Rattle.run_account.specs.Runs.{count_of_run, nothing_listed};
 ghost use Rattle.run_report.specs.Texts.{HasProgram, IsStop};
 ghost use Rattle.checked_runs.specs.Documents.{IsRefusedDocument, shape_told};
-ghost use Rattle.view_top.specs.declared.options.View.TheVariants as view;
-ghost use Rattle.view_top.specs.Answers.{heading_of, made, view_made, IsBeside, IsListingOf};
+ghost use Rattle.view_top.specs.Answers.{heading_of, made, text_of_numbers, HasKeptRun, IsBeside, IsListingOf};
 ghost use Rattle.view_top.specs.Kept.{IsMachineOf, IsViewable};
 
 use crate::AccountOptions;
@@ -16,7 +14,8 @@ use crate::documents::{DocumentRun, KeptRun, begin_again, document_run};
 use dn_base::Memory;
 use dn_machine::Machine;
 use message_net::Event;
-use run_account::{Form, Grouping, Listing, listing_of, push_lists};
+use region_table::Program;
+use run_account::{AccountTable, Form, Grouping, Listing, listing_of, push_lists, push_traffic};
 use run_report::Stop;
 use std::alloc::Global;
 
@@ -54,9 +53,35 @@ fn listing_of_kept(
     count(alloc, machine, kept.run.events.as_slice(), by)
 }
 
+/// Which numbers of a run beside lists are printed.
+#[derive(Clone, Copy)]
+pub(crate) enum Numbers {
+    /// Those of the run beside lists.
+    Lists,
+    /// Those of its traffic.
+    Traffic,
+}
+
+/// Appends these numbers.
+fn push_numbers(
+    out: &mut Vec<u8>,
+    which: Numbers,
+    form: Form,
+    program: &Program,
+    table: &AccountTable,
+) -> Result<(), Memory>
+    ensures { OnOk result (out.new.items ≡ out.old.items ++ text_of_numbers which form program.now table.now) }
+{
+    match which {
+        Numbers::Lists => push_lists(out, form, program, table),
+        Numbers::Traffic => push_traffic(out, form, program, table),
+    }
+}
+
 /// A run beside lists, as it is printed.
 fn print(
     alloc: Global,
+    which: Numbers,
     form: Form,
     kept: &KeptRun,
     machine: &Machine,
@@ -64,40 +89,42 @@ fn print(
 ) -> Result<Output, Memory>
     requires kept { IsViewable kept.now }
     requires machine { IsMachineOf kept.now machine.now }
-    ensures { IfOk result (λ out. HasProgram kept.now.text (λ P. out ≡ made (heading_of form kept.now.run ++ lists_text form P listing.now.tallies))) }
+    ensures { IfOk result (λ out. HasProgram kept.now.text (λ P. out ≡ made (heading_of form kept.now.run ++ text_of_numbers which form P listing.now.tallies))) }
 {
     let mut text = heading(alloc, form, &kept.run)?;
-    push_lists(&mut text, form, machine.program(), listing.table())?;
+    push_numbers(&mut text, which, form, machine.program(), listing.table())?;
     Ok(done_with(text))
 }
 
 /// A run beside lists, as the options ask for it.
 fn beside(
     alloc: Global,
+    which: Numbers,
     options: &AccountOptions,
     kept: &KeptRun,
     machine: &mut Machine,
 ) -> Result<Output, Memory>
     requires kept { IsViewable kept.now }
     requires machine { IsMachineOf kept.now machine.old }
-    ensures { IfOk result (λ out. HasProgram kept.now.text (λ P. IsBeside P kept.now.sizes options.now kept.now.run out)) }
+    ensures { IfOk result (λ out. HasProgram kept.now.text (λ P. IsBeside which P kept.now.sizes options.now kept.now.run out)) }
 {
     let listing = listing_of_kept(alloc, options.by, kept, machine)?;
-    print(alloc, options.form, kept, machine, &listing)
+    print(alloc, which, options.form, kept, machine, &listing)
 }
 
-/// A trace's run beside lists.
+/// A trace's run beside lists, or its traffic.
 pub(crate) fn lists_document(
     alloc: Global,
+    which: Numbers,
     options: &AccountOptions,
     document: &[u8],
 ) -> Result<Output, Stop>
-    ensures made { IfOk result (view_made (view.Lists options.now) document.now) }
+    ensures made { IfOk result (λ out. HasKeptRun document.now (λ L t r. IsBeside which L.program t.shape options.now r out)) }
     ensures stop { IfErr result (IsStop (IsRefusedDocument document.now)) }
 {
     let told = document_run(alloc, document)?;
     let DocumentRun { kept, mut machine } = told;
-    let printed = beside(alloc, options, &kept, &mut machine);
+    let printed = beside(alloc, which, options, &kept, &mut machine);
     // for the prover alone: two calls drop the run and its machine, in place of the drops of all their parts at each exit
     drop(machine);
     drop(kept);

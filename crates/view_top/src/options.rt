@@ -12,6 +12,8 @@ pub enum View {
     Account(AccountOptions),
     /// The run beside lists of sharers, in numbers.
     Lists(AccountOptions),
+    /// The messages of the run by their kinds and the bytes of these, beside those with lists of sharers.
+    Traffic(AccountOptions),
     /// A state of the run, and what is enabled there.
     State(StateOptions),
     /// The answer of the run for readers: tasks, regions and locks by their names.
@@ -54,7 +56,7 @@ pub struct ChartOptions {
     pub tick_mail: u32,
 }
 
-/// What the words ask of an account, and of a run beside lists of sharers.
+/// What the words ask of an account, of a run beside lists of sharers, and of its traffic.
 #[derive(Clone, Copy)]
 pub struct AccountOptions {
     /// What the groups of its numbers are.

@@ -178,7 +178,7 @@ fn form(matches: &ArgMatches<'_>) -> Option<Form>
     }
 }
 
-/// What an account is asked, and a run beside lists.
+/// What an account is asked, a run beside lists, and its traffic.
 #[tactic(auto, unfolding(crate::specs::Command::account_options_from))]
 fn account_options(matches: &ArgMatches<'_>) -> Option<AccountOptions>
     ensures { result ≡ account_options_from (rows_of (found_of matches.now)) }
@@ -280,6 +280,7 @@ fn view_named(
         "chart" => Some(View::Chart(chart?)),
         "account" => Some(View::Account(account)),
         "lists" => Some(View::Lists(account)),
+        "traffic" => Some(View::Traffic(account)),
         "state" => Some(View::State(state)),
         "answer" => Some(View::Answer(answer)),
         "page" => Some(View::Page(page)),
@@ -381,6 +382,7 @@ fn with_lists(alloc: Global, matches: &ArgMatches<'_>, view: View) -> Result<Vie
         View::Chart(options) => Ok(View::Chart(with_names(alloc, matches, options)?)),
         View::Account(options) => Ok(View::Account(options)),
         View::Lists(options) => Ok(View::Lists(options)),
+        View::Traffic(options) => Ok(View::Traffic(options)),
         View::State(options) => Ok(View::State(options)),
         View::Answer(options) => Ok(View::Answer(options)),
         View::Page(options) => Ok(View::Page(options)),

@@ -1,4 +1,4 @@
-use Rattle.machine_rules.proofs.InProgramOrder.{well-sequential}
+use Rattle.machine_rules.proofs.Sequential.{well-sequential}
 use Rattle.machine_rules.proofs.laws.every_run_is_sequentially_consistent.Goals as goal
 
 pub returns : goal.returns

@@ -2,4 +2,4 @@ use Rattle.std.proofs.Common.{◌≡◌, replicate}
 use Rattle.run_account.proofs.table.no_numbers.Given as goal
 
 abbrev pub invariant-loop-group : goal.invariant-loop-group
-invariant-loop-group l = l.numbers.items ≡ replicate l._group (replicate 43 0)
+invariant-loop-group l = l.numbers.items ≡ replicate l._group (replicate 58 0)

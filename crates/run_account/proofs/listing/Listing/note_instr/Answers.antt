@@ -3,9 +3,9 @@ use Rattle.std.proofs.lemmas.Option.{slice_get_past}
 use Rattle.run_account.proofs.ListAfter.{after_access, after_other, no_core}
 use Rattle.run_account.proofs.listing.Listing.note_instr.Goals as goal
 
-pub returns-in_ok-note_access : goal.returns-in_ok-note_access
-returns-in_ok-note_access c =
-    c.in_ok-note_access.ensures
+pub returns-in_ok-note_retired : goal.returns-in_ok-note_retired
+returns-in_ok-note_retired c =
+    c.in_ok-note_retired.ensures
     ∙ sym (after_access c.args.machine.now.state c.args.core c.args.self.now c.in-Some.access (sym c.access_retired.ensures ∙ c.in-Some.is))
 
 pub returns-in_default : goal.returns-in_default

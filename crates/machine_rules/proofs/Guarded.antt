@@ -1,10 +1,7 @@
--- No run of a checked program has a data race: accesses that conflict have a barrier between them, or a lock that is handed on.
+-- Accesses of a run of a checked program that conflict have a barrier between them, or a lock that is handed on.
 use Rattle.std.proofs.Common.{◌≡◌, ◌≢◌, ◌⊎◌, inl, inr, ℕ, suc, ◌+◌, ◌<◌, ◌≤◌, nat_lt, Bool, true, false, List, [], ◌∷◌, ◌++◌, length, Option, Some, None, refl, sym, ap, subst, ◌∙◌, arith}
 use Rattle.std.specs.List.{IsAmong}
 use Rattle.std.proofs.lemmas.Bool.Decides.{nat_tests}
-use Rattle.std.proofs.lemmas.Option.{none-some}
-use Rattle.dn_base.specs.declared.ids.LockId.{LockId}
-use Rattle.dn_base.specs.declared.ids.Grant.{Grant}
 use Rattle.region_table.specs.Tasks.{declared}
 use Rattle.region_table.specs.declared.declared.Phase.{Phase}
 use Rattle.region_table.proofs.TaskLemmas.{declared-tells}
@@ -13,19 +10,19 @@ use Rattle.rv_core.specs.Access.{is_held, may_load}
 use Rattle.flat_machine.proofs.Rights.{both-ways}
 use Rattle.flat_machine.proofs.Separation.{SharesLock, shares-lock}
 use Rattle.message_net.specs.declared.event.Event.{Event}
-use Rattle.message_net.specs.declared.event.Event.TheVariants.{Instr, Evict, Arrive, Handle}
 use Rattle.registration_protocol.specs.Node.{Setting}
 use Rattle.registration_protocol.specs.Parts.{held_locks}
 use Rattle.machine_rules.specs.State.{State, initial_state, lock_at}
-use Rattle.machine_rules.specs.Next.{next, enabled, granted_in}
+use Rattle.machine_rules.specs.Next.{next, enabled}
 use Rattle.machine_rules.specs.Memory.{store_in}
 use Rattle.machine_rules.specs.Runs.{after, IsRun}
 use Rattle.machine_rules.specs.Flight.{bit}
 use Rattle.machine_rules.specs.Coherent.{holds_lock, has_lock, holder_in}
-use Rattle.machine_rules.specs.Sound.{IsSound, IsReady, IsWellFormed}
-use Rattle.machine_rules.proofs.AnySize.{well-formed}
-use Rattle.machine_rules.specs.Accesses.{Access, access_in, Action, accesses, takes, action_by, action_in, actions_of}
-use Rattle.machine_rules.specs.Racing.{Conflicts, IsHandedOn, IsSynchronized, IsRaceFree}
+use Rattle.machine_rules.specs.Sound.{IsSound, IsWellFormed}
+use Rattle.machine_rules.specs.Actions.{Access, LockAction, Action, accesses, acquires}
+use Rattle.machine_rules.specs.Accesses.{synchronization_in, action_in, actions_of}
+use Rattle.machine_rules.specs.Racing.{Conflicts}
+use Rattle.machine_rules.specs.Guarded.{IsHandedOn, IsSynchronized, IsGuarded}
 use Rattle.machine_rules.proofs.Invariant.{Invariant}
 use Rattle.machine_rules.proofs.Outcomes.{stored_to}
 use Rattle.machine_rules.proofs.Exclusive.{in-phase, one-holder}
@@ -37,23 +34,11 @@ use Rattle.machine_rules.proofs.RunsKept.{memory_over, same-setting, run-setting
 use Rattle.machine_rules.proofs.RunsCoherent.{first_memory}
 use Rattle.machine_rules.proofs.PhasesOn.{goes-on, keeper-on}
 use Rattle.machine_rules.proofs.AccessMade.{IsMade, access-told}
-use Rattle.machine_rules.proofs.TasksMove.{IsGranted, moves}
+use Rattle.machine_rules.proofs.TasksMove.{IsGained, moves}
+use Rattle.machine_rules.proofs.ActionsDone.{action-access, with-synchronization}
 use Rattle.machine_rules.proofs.ReadOff.{read-none, read-some, IsSplit, split, run-front}
 
 -- ---- actions
-
-action-access : (o : Option Access) (g : Option Grant) (a : Access) → action_by o g ≡ Some (accesses a) → o ≡ Some a
-action-access None None a is = absurd (none-some (accesses a) is)
-action-access None (Some g) a is = cc
-action-access (Some b) g a is = cc
-
--- an event that grants a lock accesses no word
-action-grant : (S : State) (e : Event) (g : Grant) → granted_in S e ≡ Some g → action_in S e ≡ Some (takes g)
-unfolding access_in granted_in
-action-grant S (Instr core) g is = absurd (none-some g is)
-action-grant S (Evict core word) g is = absurd (none-some g is)
-action-grant S (Arrive core) g is = absurd (none-some g is)
-action-grant S (Handle id) g is = ap (action_by None) is
 
 among-first : {X : Type 0} (x : X) (xs : List X) → IsAmong (x ∷ xs) x
 among-first x xs = (0, (omega arith, refl))
@@ -64,34 +49,34 @@ among-later x xs y h = let within = h.1.0 in (suc h.0, (omega (arith, within), h
 -- ---- who comes to hold a lock takes it
 
 record IsTaken (S : State) (events : List Event) (c l : ℕ) : Type 0 where
-  pub lock : LockId
-  pub number : lock.0 ≡ l
-  pub phase : ℕ
-  pub low : S.keeper.phase ≤ phase
-  pub high : phase ≤ (after S events).keeper.phase
-  pub among : IsAmong (actions_of S events) (takes (record { phase = record { 0 = phase }; core = record { 0 = c }; lock = lock }))
+  pub acquire : LockAction
+  pub core : acquire.core ≡ c
+  pub lock : acquire.lock ≡ l
+  pub low : S.keeper.phase ≤ acquire.phase
+  pub high : acquire.phase ≤ (after S events).keeper.phase
+  pub among : IsAmong (actions_of S events) (acquires acquire)
 
 taken-later : (S : State) (e : Event) (es : List Event) (c l : ℕ) → S.keeper.phase ≤ (next S e).keeper.phase → IsTaken (next S e) es c l → IsTaken S (e ∷ es) c l
 taken-later S e es c l on h = by_action (action_in S e) refl where
-  with_among : IsAmong (actions_of S (e ∷ es)) (takes (record { phase = record { 0 = h.phase }; core = record { 0 = c }; lock = h.lock })) → IsTaken S (e ∷ es) c l
-  with_among among = record { lock = h.lock; number = h.number; phase = h.phase; low = omega (arith, on, h.low); high = h.high; among = among }
+  with_among : IsAmong (actions_of S (e ∷ es)) (acquires h.acquire) → IsTaken S (e ∷ es) c l
+  with_among among = record { acquire = h.acquire; core = h.core; lock = h.lock; low = omega (arith, on, h.low); high = h.high; among = among }
 
   by_action : (o : Option Action) → action_in S e ≡ o → IsTaken S (e ∷ es) c l
-  by_action None is = with_among (subst (λ (xs : List Action). IsAmong xs (takes (record { phase = record { 0 = h.phase }; core = record { 0 = c }; lock = h.lock }))) (sym (read-none action_in S e es is)) h.among)
+  by_action None is = with_among (subst (λ (xs : List Action). IsAmong xs (acquires h.acquire)) (sym (read-none action_in S e es is)) h.among)
   by_action (Some x) is =
-      with_among (subst (λ (xs : List Action). IsAmong xs (takes (record { phase = record { 0 = h.phase }; core = record { 0 = c }; lock = h.lock }))) (sym (read-some action_in S e es x is))
+      with_among (subst (λ (xs : List Action). IsAmong xs (acquires h.acquire)) (sym (read-some action_in S e es x is))
       (among-later x (actions_of (next S e) es) _ h.among))
 
-taken-first : (S : State) (e : Event) (es : List Event) (c l : ℕ) → S.keeper.phase ≤ (after S (e ∷ es)).keeper.phase → IsGranted S c l (granted_in S e) → IsTaken S (e ∷ es) c l
+taken-first : (S : State) (e : Event) (es : List Event) (c l : ℕ) → S.keeper.phase ≤ (after S (e ∷ es)).keeper.phase → IsGained S c l (synchronization_in S e) → IsTaken S (e ∷ es) c l
 taken-first S e es c l on h =
-    let g : Grant = record { phase = record { 0 = S.keeper.phase }; core = record { 0 = c }; lock = h.lock } in
     record {
+      acquire = h.acquire;
+      core = h.core;
       lock = h.lock;
-      number = h.number;
-      phase = S.keeper.phase;
-      low = omega arith;
-      high = on;
-      among = subst (λ (xs : List Action). IsAmong xs (takes g)) (sym (read-some action_in S e es (takes g) (action-grant S e g h.is))) (among-first (takes g) (actions_of (next S e) es));
+      low = omega (arith, h.phase);
+      high = omega (arith, h.phase, on);
+      among = subst (λ (xs : List Action). IsAmong xs (acquires h.acquire)) (sym (read-some action_in S e es (acquires h.acquire) (with-synchronization S e (acquires h.acquire) h.is)))
+          (among-first (acquires h.acquire) (actions_of (next S e) es));
     }
 
 taken : (S : State) (M : ℕ → ℕ) (count : ℕ) (events : List Event) (c l : ℕ) → IsSound S count → Invariant S M → IsRun S events → has_lock S c l ≡ false → has_lock (after S events) c l ≡ true
@@ -150,10 +135,14 @@ handed : (U : State) (M N K : ℕ → ℕ) (count : ℕ) (e f : Event) (es : Lis
     → IsRun (next U e) es → Invariant (after (next U e) es) K → IsMade U M e a → IsMade (after (next U e) es) K f b → Conflicts a b → a.phase ≡ b.phase → IsHandedOn a b (actions_of (next U e) es)
 handed U M N K count e f es a b first on sound good run later one two conflict same =
     record {
-      lock = took.lock;
-      first = ap (is_held a.held) took.number ∙ shares.one;
-      second = ap (is_held b.held) took.number ∙ shares.two;
-      grant = subst (λ (q : ℕ). IsAmong (actions_of T es) (takes (record { phase = record { 0 = q }; core = record { 0 = b.core }; lock = took.lock }))) phase took.among;
+      lock = shares.lock;
+      first = shares.one;
+      second = shares.two;
+      grant = took.acquire;
+      taken = took.among;
+      phase = phase;
+      core = took.core;
+      same = took.lock;
     }
   where
     T : State
@@ -182,7 +171,7 @@ handed U M N K count e f es a b first on sound good run later one two conflict s
     took : IsTaken T es b.core shares.lock
     took = taken T N count es b.core shares.lock sound good run (unheld T N a.core b.core shares.lock good conflict.cores had) has
 
-    phase : took.phase ≡ b.phase
+    phase : took.acquire.phase ≡ b.phase
     phase = omega (arith, took.low, took.high, same, at_first, at_second, on)
 
 -- two accesses that conflict, made by an event e and one after the events that follow it
@@ -212,8 +201,8 @@ synchronized U M N count e f es a b first on sound good run one two conflict =
 
 -- ---- every run
 
-race-free : (S : State) (M : ℕ → ℕ) (count : ℕ) (events : List Event) → IsSound S count → Invariant S M → IsRun S events → IsRaceFree (actions_of S events)
-race-free S M count events sound inv run before between rest a b is conflict =
+guarded : (S : State) (M : ℕ → ℕ) (count : ℕ) (events : List Event) → IsSound S count → Invariant S M → IsRun S events → IsGuarded (actions_of S events)
+guarded S M count events sound inv run before between rest a b is conflict =
     subst (λ (xs : List Action). IsSynchronized a xs b) t.front (synchronized U (memory_over M S s.past) N (count + length s.past + 1) s.event t.event t.past a b here.1 on sound_on good second.0 one two conflict)
   where
     s : IsSplit action_in S events before (accesses a) (between ++ accesses b ∷ rest)
@@ -250,17 +239,12 @@ race-free S M count events sound inv run before between rest a b is conflict =
     second = run-front T t.past t.later t.event (subst (IsRun T) t.is first.2)
 
     one : IsMade U (memory_over M S s.past) s.event a
-    one = (access-told U (memory_over M S s.past) s.event here.1 first.1).made a (action-access (access_in U s.event) (granted_in U s.event) a s.told)
+    one = (access-told U (memory_over M S s.past) s.event here.1 first.1).made a (action-access U s.event a s.told)
 
     two : IsMade (after T t.past) (memory_over N T t.past) t.event b
     two =
         (access-told (after T t.past) (memory_over N T t.past) t.event (run-kept T N (count + length s.past + 1) t.past sound_on good second.0).1 second.1).made b
-        (action-access (access_in (after T t.past) t.event) (granted_in (after T t.past) t.event) b t.told)
+        (action-access (after T t.past) t.event b t.told)
 
-pub well-race_free : (C : Setting) (events : List Event) → IsWellFormed C → IsRun (initial_state C) events → IsRaceFree (actions_of (initial_state C) events)
-well-race_free C events well run =
-    race-free (initial_state C) (first_memory C) 0 events (opened-sound C well) (opened-invariant C well) run
-
--- the same within the limits of the code
-pub run-race_free : (C : Setting) (events : List Event) → IsReady C → IsRun (initial_state C) events → IsRaceFree (actions_of (initial_state C) events)
-run-race_free C events ready run = well-race_free C events (well-formed C ready) run
+pub well-guarded : (C : Setting) (events : List Event) → IsWellFormed C → IsRun (initial_state C) events → IsGuarded (actions_of (initial_state C) events)
+well-guarded C events well run = guarded (initial_state C) (first_memory C) 0 events (opened-sound C well) (opened-invariant C well) run

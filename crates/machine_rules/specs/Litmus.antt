@@ -1,0 +1,62 @@
+-- What the definitions of sequential consistency and of data races refuse: outcomes that the literature's litmus tests forbid, and
+-- accesses that nothing orders.
+use Rattle.std.specs.Prelude.{ℕ, List, [], ◌∷◌, Some, None}
+use Rattle.machine_rules.specs.Actions.{Action, accesses, acquires, arrives, starts}
+
+-- a store and a load by a core in a phase, at a place of its program: of which word, and which value
+abbrev pub store_in : ℕ → ℕ → ℕ → ℕ → ℕ → Action
+store_in phase core place word value =
+    accesses (record { phase = phase; core = core; place = place; held = 0; word = word; read = None; written = Some value })
+
+-- both in phase 0
+abbrev pub store : ℕ → ℕ → ℕ → ℕ → Action
+store core place word value = store_in 0 core place word value
+
+abbrev pub load : ℕ → ℕ → ℕ → ℕ → Action
+load core place word value =
+    accesses (record { phase = 0; core = core; place = place; held = 0; word = word; read = Some value; written = None })
+
+-- a core acquires lock 0, arrives at the end of a phase, and starts a phase
+abbrev pub acquire : ℕ → ℕ → Action
+acquire core place = acquires (record { phase = 0; core = core; place = place; lock = 0 })
+
+abbrev pub arrive : ℕ → ℕ → Action
+arrive core phase = arrives (record { phase = phase; core = core })
+
+abbrev pub start : ℕ → ℕ → Action
+start core phase = starts (record { phase = phase; core = core })
+
+-- ---- outcomes that no order explains. Words 0 and 1 are 0 first
+
+abbrev pub zeros : List ℕ
+zeros = 0 ∷ 0 ∷ []
+
+-- store buffering: each of two cores stores to a word, and then reads the other's word as it was first
+abbrev pub store_buffering : List Action
+store_buffering = store 0 0 0 1 ∷ load 0 1 1 0 ∷ store 1 0 1 1 ∷ load 1 1 0 0 ∷ []
+
+-- message passing: a core reads the flag that was set, and then the data as they were first
+abbrev pub message_passing : List Action
+message_passing = store 0 0 0 1 ∷ store 0 1 1 1 ∷ load 1 0 1 1 ∷ load 1 1 0 0 ∷ []
+
+-- coherence of two reads: a core reads a word's new value, and then its old one
+abbrev pub read_read : List Action
+read_read = store 0 0 0 1 ∷ load 1 0 0 1 ∷ load 1 1 0 0 ∷ []
+
+-- independent reads of independent stores: two cores see the stores of two others in different orders
+abbrev pub independent_reads : List Action
+independent_reads = store 0 0 0 1 ∷ store 1 0 1 1 ∷ load 2 0 0 1 ∷ load 2 1 1 0 ∷ load 3 0 1 1 ∷ load 3 1 0 0 ∷ []
+
+-- ---- accesses that nothing orders
+
+-- two cores store to one word
+abbrev pub unordered_stores : List Action
+unordered_stores = store 0 0 0 1 ∷ store 1 0 0 2 ∷ []
+
+-- a lock is granted to a second core, and the first hasn't released it
+abbrev pub grant_without_release : List Action
+grant_without_release = acquire 0 0 ∷ store 0 1 0 1 ∷ acquire 1 0 ∷ store 1 1 0 2 ∷ []
+
+-- one of two cores starts the next phase, and the other hasn't arrived
+abbrev pub early_start : List Action
+early_start = arrive 0 0 ∷ start 0 1 ∷ store_in 1 0 0 0 1 ∷ store 1 0 0 2 ∷ arrive 1 0 ∷ start 1 1 ∷ []

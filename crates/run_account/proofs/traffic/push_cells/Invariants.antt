@@ -1,0 +1,8 @@
+use Rattle.std.proofs.Common.{◌≡◌, ◌-◌, ◌++◌, flat_map}
+use Rattle.std.specs.List.{range_with_len}
+use Rattle.run_account.specs.Forms.{traffic_cell}
+use Rattle.run_account.proofs.traffic.push_cells.Given as goal
+
+abbrev pub invariant-loop-group : goal.invariant-loop-group
+invariant-loop-group l =
+    l.out.items ++ flat_map (traffic_cell l.table l.row) (range_with_len l.group (l.groups - l.group)) ≡ l.fn.out.items ++ flat_map (traffic_cell l.table l.row) (range_with_len 0 l.groups)
