@@ -214,10 +214,10 @@ def of_a_directory(text, *words):
 
 
 def bytes_of_a_run(text):
-    """What the messages of the run with seed 1 take: 8 bytes each, 4 more for a word's value, 33 more for a signature and its phase."""
-    counts = {line.split()[1]: int(line.split()[2]) for line in reference.answer([], text.decode())[1] if line.startswith("count ")}
-    messages = sum(count for kind, count in counts.items() if kind not in ("events", "instr", "evict", "arrive"))
-    return 8 * messages + 4 * (counts["data-reply"] + counts["write-back"]) + 33 * (counts["release"] + counts["grant"])
+    """The bytes of words and of locks in the run with seed 1, here and with lists."""
+    document = written(reference.answer(["--mode", "trace"], text.decode())[1])
+    counts = {line.split(",")[0]: int(line.split(",")[2]) for line in reference.traffic(document, "run")[1][1:]}
+    return counts["bytes"] + counts["lock-bytes"], counts["list-bytes"] + counts["list-lock-bytes"]
 
 
 def the_page_on_lists_says_what_it_leaves_out():
@@ -231,8 +231,7 @@ def the_page_on_lists_says_what_it_leaves_out():
     here = next(line for line in reference.answer(ticks, text_of("stencil").decode())[1] if line.startswith("time "))
     waits = [of_a_directory(text_of("stencil"), *words)[2] for words in (LISTS_RULES, ["--line=1"])]
     said.append("{:,} ticks with stores that wait, {:,} with MESI and stores that go on, {:,} here".format(*waits, int(here.split()[1])))
-    texts = text_of("locked-counter"), pattern("reduction", "16")
-    sizes = [size for text in texts for size in (bytes_of_a_run(text), of_a_directory(text, *LISTS_RULES, *(["--banks=16", "--sets=256"] if text is texts[1] else []))[1])]
+    sizes = *bytes_of_a_run(text_of("locked-counter")), *bytes_of_a_run(pattern("reduction", "16"))
     said.append("`locked-counter` has {:,} bytes here and {:,} with lists; `reduction` with 16 cores {:,} and {:,}".format(*sizes))
     small = counted_beside_lists(text_of("constants"), ["--sets", "4", "--ways", "1"])
     silent = small["list-messages"] - 2 * small["list-put-shares"]
