@@ -92,6 +92,7 @@ mod LocksLegal
 mod BarrierKept
 mod PathLemmas
 mod Refused
+mod Accepted
 mod Served
 pub mod Sequential
 mod Guarded

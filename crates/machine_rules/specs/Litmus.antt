@@ -1,7 +1,7 @@
 -- What the definitions of sequential consistency and of data races refuse: outcomes that the literature's litmus tests forbid, and
 -- accesses that nothing orders.
 use Rattle.std.specs.Prelude.{ℕ, List, [], ◌∷◌, Some, None}
-use Rattle.machine_rules.specs.Actions.{Action, accesses, acquires, arrives, starts}
+use Rattle.machine_rules.specs.Actions.{Action, accesses, acquires, releases, arrives, starts}
 
 -- a store and a load by a core in a phase, at a place of its program: of which word, and which value
 abbrev pub store_in : ℕ → ℕ → ℕ → ℕ → ℕ → Action
@@ -60,3 +60,22 @@ grant_without_release = acquire 0 0 ∷ store 0 1 0 1 ∷ acquire 1 0 ∷ store 
 -- one of two cores starts the next phase, and the other hasn't arrived
 abbrev pub early_start : List Action
 early_start = arrive 0 0 ∷ start 0 1 ∷ store_in 1 0 0 0 1 ∷ store 1 0 0 2 ∷ arrive 1 0 ∷ start 1 1 ∷ []
+
+-- ---- accesses that are ordered
+
+-- a core acquires or releases a lock
+abbrev pub acquire_of : ℕ → ℕ → ℕ → Action
+acquire_of core place lock = acquires (record { phase = 0; core = core; place = place; lock = lock })
+
+abbrev pub release_of : ℕ → ℕ → ℕ → Action
+release_of core place lock = releases (record { phase = 0; core = core; place = place; lock = lock })
+
+-- what core 0 stores under one lock core 2 reads under another, and core 1 takes the first and then the second in between
+abbrev pub chain_of_locks : List Action
+chain_of_locks =
+    acquire_of 0 0 0 ∷ store 0 1 0 1 ∷ release_of 0 2 0 ∷ acquire_of 1 0 0 ∷ release_of 1 1 0 ∷ acquire_of 1 2 1 ∷ release_of 1 3 1 ∷ acquire_of 2 0 1
+    ∷ load 2 1 0 1 ∷ []
+
+-- what one core stores in a phase the other stores to in the next one
+abbrev pub across_a_barrier : List Action
+across_a_barrier = store 0 0 0 1 ∷ arrive 0 0 ∷ arrive 1 0 ∷ start 0 1 ∷ start 1 1 ∷ store_in 1 1 0 0 2 ∷ []

@@ -17,6 +17,6 @@ pub use laws::{
 };
 pub use litmus::{
     early_grants_and_early_starts_are_refused, forbidden_outcomes_have_no_sequential_order,
-    unordered_accesses_are_a_data_race,
+    ordered_accesses_are_no_data_race, unordered_accesses_are_a_data_race,
 };
 pub use stepped::Stepped;

@@ -1,9 +1,9 @@
-//! What the definitions of sequential consistency and of data races refuse, for readers who want to trust them.
+//! What the definitions of sequential consistency and of data races refuse and accept, for readers who want to trust them.
 ghost use Rattle.std.specs.Prelude.{List};
 ghost use Rattle.machine_rules.specs.Actions.{Action};
 ghost use Rattle.machine_rules.specs.Consistent.{AreLocksLegal, IsBarrierLegal, IsSequentialOrder};
 ghost use Rattle.machine_rules.specs.Racing.{IsDataRaceFree, IsMutuallyExclusive, ArePhasesApart};
-ghost use Rattle.machine_rules.specs.Litmus.{zeros, store_buffering, message_passing, read_read, independent_reads, unordered_stores, grant_without_release, early_start};
+ghost use Rattle.machine_rules.specs.Litmus.{zeros, store_buffering, message_passing, read_read, independent_reads, unordered_stores, grant_without_release, early_start, chain_of_locks, across_a_barrier};
 
 /// No sequential order explains the outcomes that the literature's litmus tests forbid.
 pub fn forbidden_outcomes_have_no_sequential_order()
@@ -27,4 +27,10 @@ pub fn early_grants_and_early_starts_are_refused()
     ensures excluded { IsMutuallyExclusive grant_without_release → ⊥ }
     ensures barrier { IsBarrierLegal 2 early_start → ⊥ }
     ensures apart { ArePhasesApart early_start → ⊥ }
+{}
+
+/// Accesses that a chain of locks orders, or a barrier, are no race.
+pub fn ordered_accesses_are_no_data_race()
+    ensures locks { IsDataRaceFree chain_of_locks }
+    ensures barrier { IsDataRaceFree across_a_barrier }
 {}
