@@ -21,6 +21,6 @@ pub use laws::{
 };
 pub use parsing::read_trace;
 pub use refusal::{TraceRefusal, trace_line};
-pub use replaying::{Replayed, replay, replay_on};
+pub use replaying::{Replayed, advance, replay, replay_on};
 pub use trace::{Trace, TraceFault, TraceShape};
 pub use writing::trace_text;

@@ -43,11 +43,12 @@ fn task_end(machine: &Machine, actor: Actor) -> Option<TaskEnd>
     }
 }
 
-/// Makes an event if it is enabled; None if it is not.
+/// Makes an event if it is enabled, and gives what a log notes of it; None if it is not enabled. Fewer than 4,000,000,000 events must
+/// have come before.
 ///
 /// # Errors
 /// `Memory` if there is no room for the messages.
-fn advance(machine: &mut Machine, event: Event) -> Result<Option<Happened>, Memory>
+pub fn advance(machine: &mut Machine, event: Event) -> Result<Option<Happened>, Memory>
     requires { machine.old.made < 4000000000 }
     ensures advanced { IfOk result (HasAdvanced machine.old machine.new event) }
     ensures setting { OnOk result (machine.new.state.setting ≡ machine.old.state.setting) }

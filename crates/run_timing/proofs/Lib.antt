@@ -13,3 +13,4 @@ pub mod OneChain
 pub mod OneTiming
 pub mod ByPlace
 pub mod Finished
+pub mod Delays

@@ -76,7 +76,7 @@ keeper-there cores banks (Core core) is = absurd (cc)
 keeper-there cores banks (Bank bank) is = absurd (cc)
 
 -- a mail that goes the right way goes to an actor of the machine
-right-there : (cores banks : ℕ) (to : Actor) (m : Message) → 0 < banks → is_right cores banks to m ≡ true → has_actor cores banks to ≡ true
+pub right-there : (cores banks : ℕ) (to : Actor) (m : Message) → 0 < banks → is_right cores banks to m ≡ true → has_actor cores banks to ≡ true
 right-there cores banks to (ReadReq word reader) some is = bank-there cores banks word.0 to some is
 right-there cores banks to (RegReq word core) some is = bank-there cores banks word.0 to some is
 right-there cores banks to (WriteBack word value core) some is = bank-there cores banks word.0 to some is
@@ -92,7 +92,7 @@ right-there cores banks to (Grant lock signature) some is = core-there cores ban
 right-there cores banks to (Go phase) some is = core-there cores banks to is
 right-there cores banks to Halt some is = core-there cores banks to is
 
-not-lost : (b : Bool) → bit (not b) ≡ 0 → b ≡ true
+pub not-lost : (b : Bool) → bit (not b) ≡ 0 → b ≡ true
 not-lost true none = refl
 not-lost false none = absurd (omega (arith, none))
 
@@ -114,7 +114,7 @@ mail-there S M id a inv is = by_mail (removed id S.mails).0 refl is where
       (right-there S.setting.shape.cores S.setting.shape.banks m.to m.message inv.machine.context.some_banks right)
 
 -- an event that may come is one of the machine's actors'
-actor-there : (S : State) (M : ℕ → ℕ) (e : Event) (a : Actor) → Invariant S M → enabled S e ≡ true → actor_in S e ≡ Some a → has S.setting a ≡ true
+pub actor-there : (S : State) (M : ℕ → ℕ) (e : Event) (a : Actor) → Invariant S M → enabled S e ≡ true → actor_in S e ≡ Some a → has S.setting a ≡ true
 unfolding enabled actor_in
 actor-there S M (Instr core) a inv may is = subst (λ (x : Actor). has S.setting x ≡ true) (same_Some (Core core) a is) (node-there S core.0 (may_instr S.setting) inv.machine may)
 actor-there S M (Evict core word) a inv may is =

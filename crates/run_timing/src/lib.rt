@@ -6,6 +6,7 @@ mod befores;
 mod finishes;
 mod laws;
 mod making;
+mod network;
 mod noting;
 mod room;
 mod rows;
@@ -19,6 +20,7 @@ mod way;
 
 pub use finishes::{finish_events, finish_run};
 pub use laws::a_run_has_one_timing;
+pub use network::{Net, Network};
 pub use text::{push_timing, time_text};
 pub use ticks::Ticks;
 pub use time::{time_events, time_run};

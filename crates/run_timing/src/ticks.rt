@@ -29,15 +29,15 @@ impl Ticks {
         }
     }
 
-    /// The ticks of an event of this kind.
+    /// The ticks at the index of this kind.
     fn kind_ticks(&self, kind: EventKind) -> u32
         ensures { result ≡ ticks_of self.now kind }
     {
         self.kinds[kind as usize]
     }
 
-    /// The same if they are within their limits.
-    pub(crate) fn of(&self, kind: EventKind) -> u32
+    /// The ticks of an event of this kind, if they are within their limits.
+    pub fn of(&self, kind: EventKind) -> u32
         requires { AreWithinLimits self.now }
         ensures value { result ≡ ticks_of self.now kind }
         ensures most { result ≤ 1000000 }

@@ -1,0 +1,16 @@
+pub mod Less
+pub mod Putting
+pub mod Firsts
+pub mod Sent
+pub mod Weights
+pub mod Choosing
+pub mod Mails
+pub mod Clocked
+pub mod Nexts
+pub mod Moved
+pub mod Turns
+pub mod Reached
+pub mod Rising
+pub mod OneOrder
+pub mod Orders
+pub mod Looking
