@@ -9,8 +9,8 @@ store_in phase core place word value =
     accesses (record { phase = phase; core = core; place = place; held = 0; word = word; read = None; written = Some value })
 
 -- both in phase 0
-abbrev pub store : ℕ → ℕ → ℕ → ℕ → Action
-store core place word value = store_in 0 core place word value
+abbrev pub first_phase_store : ℕ → ℕ → ℕ → ℕ → Action
+first_phase_store core place word value = store_in 0 core place word value
 
 abbrev pub load : ℕ → ℕ → ℕ → ℕ → Action
 load core place word value =
@@ -33,33 +33,33 @@ zeros = 0 ∷ 0 ∷ []
 
 -- store buffering: each of two cores stores to a word, and then reads the other's word as it was first
 abbrev pub store_buffering : List Action
-store_buffering = store 0 0 0 1 ∷ load 0 1 1 0 ∷ store 1 0 1 1 ∷ load 1 1 0 0 ∷ []
+store_buffering = first_phase_store 0 0 0 1 ∷ load 0 1 1 0 ∷ first_phase_store 1 0 1 1 ∷ load 1 1 0 0 ∷ []
 
 -- message passing: a core reads the flag that was set, and then the data as they were first
 abbrev pub message_passing : List Action
-message_passing = store 0 0 0 1 ∷ store 0 1 1 1 ∷ load 1 0 1 1 ∷ load 1 1 0 0 ∷ []
+message_passing = first_phase_store 0 0 0 1 ∷ first_phase_store 0 1 1 1 ∷ load 1 0 1 1 ∷ load 1 1 0 0 ∷ []
 
 -- coherence of two reads: a core reads a word's new value, and then its old one
 abbrev pub read_read : List Action
-read_read = store 0 0 0 1 ∷ load 1 0 0 1 ∷ load 1 1 0 0 ∷ []
+read_read = first_phase_store 0 0 0 1 ∷ load 1 0 0 1 ∷ load 1 1 0 0 ∷ []
 
 -- independent reads of independent stores: two cores see the stores of two others in different orders
 abbrev pub independent_reads : List Action
-independent_reads = store 0 0 0 1 ∷ store 1 0 1 1 ∷ load 2 0 0 1 ∷ load 2 1 1 0 ∷ load 3 0 1 1 ∷ load 3 1 0 0 ∷ []
+independent_reads = first_phase_store 0 0 0 1 ∷ first_phase_store 1 0 1 1 ∷ load 2 0 0 1 ∷ load 2 1 1 0 ∷ load 3 0 1 1 ∷ load 3 1 0 0 ∷ []
 
 -- ---- accesses that nothing orders
 
 -- two cores store to one word
 abbrev pub unordered_stores : List Action
-unordered_stores = store 0 0 0 1 ∷ store 1 0 0 2 ∷ []
+unordered_stores = first_phase_store 0 0 0 1 ∷ first_phase_store 1 0 0 2 ∷ []
 
 -- a lock is granted to a second core, and the first hasn't released it
 abbrev pub grant_without_release : List Action
-grant_without_release = acquire 0 0 ∷ store 0 1 0 1 ∷ acquire 1 0 ∷ store 1 1 0 2 ∷ []
+grant_without_release = acquire 0 0 ∷ first_phase_store 0 1 0 1 ∷ acquire 1 0 ∷ first_phase_store 1 1 0 2 ∷ []
 
 -- one of two cores starts the next phase, and the other hasn't arrived
 abbrev pub early_start : List Action
-early_start = arrive 0 0 ∷ start 0 1 ∷ store_in 1 0 0 0 1 ∷ store 1 0 0 2 ∷ arrive 1 0 ∷ start 1 1 ∷ []
+early_start = arrive 0 0 ∷ start 0 1 ∷ store_in 1 0 0 0 1 ∷ first_phase_store 1 0 0 2 ∷ arrive 1 0 ∷ start 1 1 ∷ []
 
 -- ---- accesses that are ordered
 
@@ -73,9 +73,9 @@ release_of core place lock = releases (record { phase = 0; core = core; place = 
 -- what core 0 stores under one lock core 2 reads under another, and core 1 takes the first and then the second in between
 abbrev pub chain_of_locks : List Action
 chain_of_locks =
-    acquire_of 0 0 0 ∷ store 0 1 0 1 ∷ release_of 0 2 0 ∷ acquire_of 1 0 0 ∷ release_of 1 1 0 ∷ acquire_of 1 2 1 ∷ release_of 1 3 1 ∷ acquire_of 2 0 1
+    acquire_of 0 0 0 ∷ first_phase_store 0 1 0 1 ∷ release_of 0 2 0 ∷ acquire_of 1 0 0 ∷ release_of 1 1 0 ∷ acquire_of 1 2 1 ∷ release_of 1 3 1 ∷ acquire_of 2 0 1
     ∷ load 2 1 0 1 ∷ []
 
 -- what one core stores in a phase the other stores to in the next one
 abbrev pub across_a_barrier : List Action
-across_a_barrier = store 0 0 0 1 ∷ arrive 0 0 ∷ arrive 1 0 ∷ start 0 1 ∷ start 1 1 ∷ store_in 1 1 0 0 2 ∷ []
+across_a_barrier = first_phase_store 0 0 0 1 ∷ arrive 0 0 ∷ arrive 1 0 ∷ start 0 1 ∷ start 1 1 ∷ store_in 1 1 0 0 2 ∷ []
