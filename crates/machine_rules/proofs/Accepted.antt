@@ -1,10 +1,10 @@
 -- Accesses that a chain of locks orders, or a barrier, are no data race.
-use Rattle.std.proofs.Common.{◌≡◌, ◌⊎◌, inl, inr, ℕ, zero, suc, ◌<◌, List, [], ◌∷◌, Option, Some, None, refl, sym, arith}
-use Rattle.std.proofs.lemmas.Option.{same_Some, none-some}
-use Rattle.machine_rules.specs.Actions.{Access, LockAction, BarrierAction, Action, accesses, acquires, releases, arrives, starts, core_of}
+use Rattle.std.proofs.Common.{◌≡◌, ◌⊎◌, inl, inr, ℕ, zero, suc, ◌<◌, List, [], ◌∷◌, Some, refl, arith}
+use Rattle.std.proofs.lemmas.Option.{none-some}
+use Rattle.machine_rules.specs.Actions.{Access, LockAction, BarrierAction, Action, accesses, acquires, releases, arrives, starts, acting_core}
 use Rattle.machine_rules.specs.Consistent.{IsAt}
-use Rattle.machine_rules.specs.Racing.{Conflicts, SynchronizesWith, Orders, HappensBefore, IsDataRaceFree}
-use Rattle.machine_rules.specs.Litmus.{store_in, store, load, arrive, start, acquire_of, release_of, chain_of_locks, across_a_barrier}
+use Rattle.machine_rules.specs.Racing.{SynchronizesWith, Orders, HappensBefore, IsDataRaceFree}
+use Rattle.machine_rules.specs.Litmus.{core_stores_in, core_stores, core_loads, core_arrives, core_starts, core_acquires, core_releases, chain_of_locks, across_a_barrier}
 
 -- a place without access
 no-acquire : (x : LockAction) (a : Access) → Some (acquires x) ≡ Some (accesses a) → ⊥
@@ -19,7 +19,7 @@ no-arrival x a e = cc
 no-start : (x : BarrierAction) (a : Access) → Some (starts x) ≡ Some (accesses a) → ⊥
 no-start x a e = cc
 
-orders : (actions : List Action) (i j : ℕ) (a b : Action) → i < j → IsAt actions i a → IsAt actions j b → (core_of a ≡ core_of b) ⊎ SynchronizesWith a b → Orders actions i j
+orders : (actions : List Action) (i j : ℕ) (a b : Action) → i < j → IsAt actions i a → IsAt actions j b → (acting_core a ≡ acting_core b) ⊎ SynchronizesWith a b → Orders actions i j
 orders actions i j a b less first second by = record { earlier = less; first = a; second = b; at_first = first; at_second = second; by = by }
 
 -- store, release, acquire, release, acquire, load
@@ -27,14 +27,14 @@ chained : HappensBefore chain_of_locks 1 8
 chained = (
   2 ∷ 3 ∷ 6 ∷ 7 ∷ [],
   (
-    orders chain_of_locks 1 2 (store 0 1 0 1) (release_of 0 2 0) (omega arith) refl refl (inl refl),
+    orders chain_of_locks 1 2 (core_stores 0 1 0 1) (core_releases 0 2 0) (omega arith) refl refl (inl refl),
     (
-      orders chain_of_locks 2 3 (release_of 0 2 0) (acquire_of 1 0 0) (omega arith) refl refl (inr refl),
+      orders chain_of_locks 2 3 (core_releases 0 2 0) (core_acquires 1 0 0) (omega arith) refl refl (inr refl),
       (
-        orders chain_of_locks 3 6 (acquire_of 1 0 0) (release_of 1 3 1) (omega arith) refl refl (inl refl),
+        orders chain_of_locks 3 6 (core_acquires 1 0 0) (core_releases 1 3 1) (omega arith) refl refl (inl refl),
         (
-          orders chain_of_locks 6 7 (release_of 1 3 1) (acquire_of 2 0 1) (omega arith) refl refl (inr refl),
-          orders chain_of_locks 7 8 (acquire_of 2 0 1) (load 2 1 0 1) (omega arith) refl refl (inl refl),
+          orders chain_of_locks 6 7 (core_releases 1 3 1) (core_acquires 2 0 1) (omega arith) refl refl (inr refl),
+          orders chain_of_locks 7 8 (core_acquires 2 0 1) (core_loads 2 1 0 1) (omega arith) refl refl (inl refl),
         ),
       ),
     ),
@@ -83,10 +83,10 @@ crossed : HappensBefore across_a_barrier 0 5
 crossed = (
   1 ∷ 4 ∷ [],
   (
-    orders across_a_barrier 0 1 (store 0 0 0 1) (arrive 0 0) (omega arith) refl refl (inl refl),
+    orders across_a_barrier 0 1 (core_stores 0 0 0 1) (core_arrives 0 0) (omega arith) refl refl (inl refl),
     (
-      orders across_a_barrier 1 4 (arrive 0 0) (start 1 1) (omega arith) refl refl (inr refl),
-      orders across_a_barrier 4 5 (start 1 1) (store_in 1 1 0 0 2) (omega arith) refl refl (inl refl),
+      orders across_a_barrier 1 4 (core_arrives 0 0) (core_starts 1 1) (omega arith) refl refl (inr refl),
+      orders across_a_barrier 4 5 (core_starts 1 1) (core_stores_in 1 1 0 0 2) (omega arith) refl refl (inl refl),
     ),
   ),
 )

@@ -13,7 +13,7 @@ use Rattle.machine_rules.specs.Runs.{IsRun}
 use Rattle.machine_rules.specs.Flight.{bit, flight, is_go_to}
 use Rattle.machine_rules.specs.Coherent.{is_alive}
 use Rattle.machine_rules.specs.Sound.{IsSound, IsWellFormed}
-use Rattle.machine_rules.specs.Actions.{Access, BarrierAction, Action, accesses, arrives, starts, core_of, phase_of}
+use Rattle.machine_rules.specs.Actions.{Access, BarrierAction, Action, accesses, arrives, starts, acting_core, acting_phase}
 use Rattle.machine_rules.specs.Accesses.{access_in, synchronization_in, action_in, actions_of}
 use Rattle.machine_rules.specs.Consistent.{IsAt, StandsBefore, IsBarrierLegal}
 use Rattle.machine_rules.proofs.Invariant.{Invariant}
@@ -99,9 +99,9 @@ all-done S M x c n p inv s found before = by_halted n.halted refl where
 pub record IsBarrierFrom (S : State) (actions : List Action) : Type 0 where
   pub together : (j : ℕ) (x : BarrierAction) (c : ℕ) (n : NodeParts) (p : ℕ) → IsAt actions j (starts x) → slice_get S.nodes c ≡ Some n → p + 1 ≡ x.phase → HasDone n p ⊎ StandsBefore actions j (arrival c p)
   pub later : (j : ℕ) (x : BarrierAction) → IsAt actions j (starts x) → 0 < x.phase
-  pub begun : (j : ℕ) (a : Action) (n : NodeParts) → IsAt actions j a → slice_get S.nodes (core_of a) ≡ Some n
-      → ((x : BarrierAction) × (a ≡ starts x)) ⊎ ((n.phase ≡ phase_of a) ⊎ StandsBefore actions j (start (core_of a) (phase_of a)))
-  pub there : (j : ℕ) (a : Action) → IsAt actions j a → (n : NodeParts) × (slice_get S.nodes (core_of a) ≡ Some n)
+  pub begun : (j : ℕ) (a : Action) (n : NodeParts) → IsAt actions j a → slice_get S.nodes (acting_core a) ≡ Some n
+      → ((x : BarrierAction) × (a ≡ starts x)) ⊎ ((n.phase ≡ acting_phase a) ⊎ StandsBefore actions j (start (acting_core a) (acting_phase a)))
+  pub there : (j : ℕ) (a : Action) → IsAt actions j a → (n : NodeParts) × (slice_get S.nodes (acting_core a) ≡ Some n)
 
 -- what stands before a place stands before the next one with an action in front
 further : (b : Action) (actions : List Action) (k : ℕ) (a : Action) → StandsBefore actions k a → StandsBefore (b ∷ actions) (suc k) a
@@ -124,7 +124,7 @@ node-before : (S T : State) (c : ℕ) (m : NodeParts) → length T.nodes ≡ len
 node-before S T c m long found = node-there S c (let within = slice_get_within T.nodes c m found in omega (arith, long, within))
 
 silent-from : (S T : State) (actions : List Action) → length T.nodes ≡ length S.nodes → Moves S T None → IsBarrierFrom T actions → IsBarrierFrom S actions
-silent-from S T actions long m rest = record { together = together; later = rest.later; begun = begun; there = λ j a is. let t = rest.there j a is in node-before S T (core_of a) t.0 long t.1 } where
+silent-from S T actions long m rest = record { together = together; later = rest.later; begun = begun; there = λ j a is. let t = rest.there j a is in node-before S T (acting_core a) t.0 long t.1 } where
   together : (j : ℕ) (x : BarrierAction) (c : ℕ) (n : NodeParts) (p : ℕ) → IsAt actions j (starts x) → slice_get S.nodes c ≡ Some n → p + 1 ≡ x.phase → HasDone n p ⊎ StandsBefore actions j (arrival c p)
   together j x c n p is found before = by_later (rest.together j x c moved.node p is moved.found before) where
     moved : HasMoved T c n None
@@ -138,20 +138,20 @@ silent-from S T actions long m rest = record { together = together; later = rest
     by_later (inl done) = by_now (done-by c n moved.node None p moved.on done)
     by_later (inr earlier) = inr earlier
 
-  begun : (j : ℕ) (a : Action) (n : NodeParts) → IsAt actions j a → slice_get S.nodes (core_of a) ≡ Some n
-      → ((x : BarrierAction) × (a ≡ starts x)) ⊎ ((n.phase ≡ phase_of a) ⊎ StandsBefore actions j (start (core_of a) (phase_of a)))
+  begun : (j : ℕ) (a : Action) (n : NodeParts) → IsAt actions j a → slice_get S.nodes (acting_core a) ≡ Some n
+      → ((x : BarrierAction) × (a ≡ starts x)) ⊎ ((n.phase ≡ acting_phase a) ⊎ StandsBefore actions j (start (acting_core a) (acting_phase a)))
   begun j a n is found = by_later (rest.begun j a moved.node is moved.found) where
-    moved : HasMoved T (core_of a) n None
-    moved = m.each (core_of a) n found
+    moved : HasMoved T (acting_core a) n None
+    moved = m.each (acting_core a) n found
 
-    by_now : (n.phase ≡ phase_of a) ⊎ (None ≡ Some (start (core_of a) (phase_of a))) → ((x : BarrierAction) × (a ≡ starts x)) ⊎ ((n.phase ≡ phase_of a) ⊎ StandsBefore actions j (start (core_of a) (phase_of a)))
+    by_now : (n.phase ≡ acting_phase a) ⊎ (None ≡ Some (start (acting_core a) (acting_phase a))) → ((x : BarrierAction) × (a ≡ starts x)) ⊎ ((n.phase ≡ acting_phase a) ⊎ StandsBefore actions j (start (acting_core a) (acting_phase a)))
     by_now (inl here) = inr (inl here)
-    by_now (inr none) = absurd (none-some (start (core_of a) (phase_of a)) none)
+    by_now (inr none) = absurd (none-some (start (acting_core a) (acting_phase a)) none)
 
-    by_later : ((x : BarrierAction) × (a ≡ starts x)) ⊎ ((moved.node.phase ≡ phase_of a) ⊎ StandsBefore actions j (start (core_of a) (phase_of a)))
-        → ((x : BarrierAction) × (a ≡ starts x)) ⊎ ((n.phase ≡ phase_of a) ⊎ StandsBefore actions j (start (core_of a) (phase_of a)))
+    by_later : ((x : BarrierAction) × (a ≡ starts x)) ⊎ ((moved.node.phase ≡ acting_phase a) ⊎ StandsBefore actions j (start (acting_core a) (acting_phase a)))
+        → ((x : BarrierAction) × (a ≡ starts x)) ⊎ ((n.phase ≡ acting_phase a) ⊎ StandsBefore actions j (start (acting_core a) (acting_phase a)))
     by_later (inl start') = inl start'
-    by_later (inr (inl here)) = by_now (begun-by (core_of a) n moved.node None (phase_of a) moved.on here)
+    by_later (inr (inl here)) = by_now (begun-by (acting_core a) n moved.node None (acting_phase a) moved.on here)
     by_later (inr (inr earlier)) = inr (inr earlier)
 
 -- ---- the action of an event in front
@@ -185,43 +185,43 @@ first-from S T M b o actions f rest = record { together = together; later = late
   later zero x is = let s = f.moves'.acts.starts' x (f.begins x (same_Some b (starts x) is)) in omega (arith, s.before)
   later (suc k) x is = rest.later k x is
 
-  begun : (j : ℕ) (a : Action) (n : NodeParts) → IsAt (b ∷ actions) j a → slice_get S.nodes (core_of a) ≡ Some n
-      → ((x : BarrierAction) × (a ≡ starts x)) ⊎ ((n.phase ≡ phase_of a) ⊎ StandsBefore (b ∷ actions) j (start (core_of a) (phase_of a)))
-  begun zero a n is found = by_now (begun-by (core_of a) n moved.node o (phase_of a) moved.on here) where
-    moved : HasMoved T (core_of a) n o
-    moved = f.moves'.each (core_of a) n found
+  begun : (j : ℕ) (a : Action) (n : NodeParts) → IsAt (b ∷ actions) j a → slice_get S.nodes (acting_core a) ≡ Some n
+      → ((x : BarrierAction) × (a ≡ starts x)) ⊎ ((n.phase ≡ acting_phase a) ⊎ StandsBefore (b ∷ actions) j (start (acting_core a) (acting_phase a)))
+  begun zero a n is found = by_now (begun-by (acting_core a) n moved.node o (acting_phase a) moved.on here) where
+    moved : HasMoved T (acting_core a) n o
+    moved = f.moves'.each (acting_core a) n found
 
     same : b ≡ a
     same = same_Some b a is
 
-    here : moved.node.phase ≡ phase_of a
+    here : moved.node.phase ≡ acting_phase a
     here =
-        let one : moved.node ≡ f.done.later = same_Some moved.node f.done.later (sym moved.found ∙ (ap (λ (x : Action). slice_get T.nodes (core_of x)) (sym same) ∙ f.done.now)) in
-        ap (λ (k : NodeParts). k.phase) one ∙ (sym f.done.upto.0 ∙ ap phase_of same)
+        let one : moved.node ≡ f.done.later = same_Some moved.node f.done.later (sym moved.found ∙ (ap (λ (x : Action). slice_get T.nodes (acting_core x)) (sym same) ∙ f.done.now)) in
+        ap (λ (k : NodeParts). k.phase) one ∙ (sym f.done.upto.0 ∙ ap acting_phase same)
 
-    by_now : (n.phase ≡ phase_of a) ⊎ (o ≡ Some (start (core_of a) (phase_of a))) → ((x : BarrierAction) × (a ≡ starts x)) ⊎ ((n.phase ≡ phase_of a) ⊎ StandsBefore (b ∷ actions) 0 (start (core_of a) (phase_of a)))
+    by_now : (n.phase ≡ acting_phase a) ⊎ (o ≡ Some (start (acting_core a) (acting_phase a))) → ((x : BarrierAction) × (a ≡ starts x)) ⊎ ((n.phase ≡ acting_phase a) ⊎ StandsBefore (b ∷ actions) 0 (start (acting_core a) (acting_phase a)))
     by_now (inl stays) = inr (inl stays)
-    by_now (inr one) = inl (starts-with (sym same ∙ f.told (start (core_of a) (phase_of a)) one))
+    by_now (inr one) = inl (starts-with (sym same ∙ f.told (start (acting_core a) (acting_phase a)) one))
       where
-        starts-with : a ≡ start (core_of a) (phase_of a) → (x : BarrierAction) × (a ≡ starts x)
-        starts-with is = (record { phase = phase_of a; core = core_of a }, is)
+        starts-with : a ≡ start (acting_core a) (acting_phase a) → (x : BarrierAction) × (a ≡ starts x)
+        starts-with is = (record { phase = acting_phase a; core = acting_core a }, is)
   begun (suc k) a n is found = by_later (rest.begun k a moved.node is moved.found) where
-    moved : HasMoved T (core_of a) n o
-    moved = f.moves'.each (core_of a) n found
+    moved : HasMoved T (acting_core a) n o
+    moved = f.moves'.each (acting_core a) n found
 
-    by_now : (n.phase ≡ phase_of a) ⊎ (o ≡ Some (start (core_of a) (phase_of a))) → ((x : BarrierAction) × (a ≡ starts x)) ⊎ ((n.phase ≡ phase_of a) ⊎ StandsBefore (b ∷ actions) (suc k) (start (core_of a) (phase_of a)))
+    by_now : (n.phase ≡ acting_phase a) ⊎ (o ≡ Some (start (acting_core a) (acting_phase a))) → ((x : BarrierAction) × (a ≡ starts x)) ⊎ ((n.phase ≡ acting_phase a) ⊎ StandsBefore (b ∷ actions) (suc k) (start (acting_core a) (acting_phase a)))
     by_now (inl stays) = inr (inl stays)
-    by_now (inr one) = inr (inr (front b actions k (start (core_of a) (phase_of a)) (f.told (start (core_of a) (phase_of a)) one)))
+    by_now (inr one) = inr (inr (front b actions k (start (acting_core a) (acting_phase a)) (f.told (start (acting_core a) (acting_phase a)) one)))
 
-    by_later : ((x : BarrierAction) × (a ≡ starts x)) ⊎ ((moved.node.phase ≡ phase_of a) ⊎ StandsBefore actions k (start (core_of a) (phase_of a)))
-        → ((x : BarrierAction) × (a ≡ starts x)) ⊎ ((n.phase ≡ phase_of a) ⊎ StandsBefore (b ∷ actions) (suc k) (start (core_of a) (phase_of a)))
+    by_later : ((x : BarrierAction) × (a ≡ starts x)) ⊎ ((moved.node.phase ≡ acting_phase a) ⊎ StandsBefore actions k (start (acting_core a) (acting_phase a)))
+        → ((x : BarrierAction) × (a ≡ starts x)) ⊎ ((n.phase ≡ acting_phase a) ⊎ StandsBefore (b ∷ actions) (suc k) (start (acting_core a) (acting_phase a)))
     by_later (inl start') = inl start'
-    by_later (inr (inl here)) = by_now (begun-by (core_of a) n moved.node o (phase_of a) moved.on here)
-    by_later (inr (inr earlier)) = inr (inr (further b actions k (start (core_of a) (phase_of a)) earlier))
+    by_later (inr (inl here)) = by_now (begun-by (acting_core a) n moved.node o (acting_phase a) moved.on here)
+    by_later (inr (inr earlier)) = inr (inr (further b actions k (start (acting_core a) (acting_phase a)) earlier))
 
-  there : (j : ℕ) (a : Action) → IsAt (b ∷ actions) j a → (n : NodeParts) × (slice_get S.nodes (core_of a) ≡ Some n)
-  there zero a is = subst (λ (x : Action). (n : NodeParts) × (slice_get S.nodes (core_of x) ≡ Some n)) (same_Some b a is) (f.done.node, f.done.found)
-  there (suc k) a is = let t = rest.there k a is in node-before S T (core_of a) t.0 f.long t.1
+  there : (j : ℕ) (a : Action) → IsAt (b ∷ actions) j a → (n : NodeParts) × (slice_get S.nodes (acting_core a) ≡ Some n)
+  there zero a is = subst (λ (x : Action). (n : NodeParts) × (slice_get S.nodes (acting_core x) ≡ Some n)) (same_Some b a is) (f.done.node, f.done.found)
+  there (suc k) a is = let t = rest.there k a is in node-before S T (acting_core a) t.0 f.long t.1
 
 -- ---- every run
 
@@ -292,17 +292,17 @@ well-barrier C events well run = record { together = together; begun = begun; wi
     by_phase zero none = absurd (omega (arith, none, all.later j x is))
     by_phase (suc p) some = let before : p + 1 ≡ x.phase = omega (arith, some) in by_done p before (all.together j x core node.0 p is node.1 before)
 
-  begun : (j : ℕ) (a : Action) → IsAt (actions_of S events) j a → 0 < phase_of a
-      → ((x : BarrierAction) × (a ≡ starts x)) ⊎ ((x : BarrierAction) × (x.core ≡ core_of a) × (x.phase ≡ phase_of a) × StandsBefore (actions_of S events) j (starts x))
+  begun : (j : ℕ) (a : Action) → IsAt (actions_of S events) j a → 0 < acting_phase a
+      → ((x : BarrierAction) × (a ≡ starts x)) ⊎ ((x : BarrierAction) × (x.core ≡ acting_core a) × (x.phase ≡ acting_phase a) × StandsBefore (actions_of S events) j (starts x))
   begun j a is late = by_part (all.begun j a node.0 is node.1) where
-    node : (n : NodeParts) × (slice_get S.nodes (core_of a) ≡ Some n)
+    node : (n : NodeParts) × (slice_get S.nodes (acting_core a) ≡ Some n)
     node = all.there j a is
 
-    by_part : ((x : BarrierAction) × (a ≡ starts x)) ⊎ ((node.0.phase ≡ phase_of a) ⊎ StandsBefore (actions_of S events) j (start (core_of a) (phase_of a)))
-        → ((x : BarrierAction) × (a ≡ starts x)) ⊎ ((x : BarrierAction) × (x.core ≡ core_of a) × (x.phase ≡ phase_of a) × StandsBefore (actions_of S events) j (starts x))
+    by_part : ((x : BarrierAction) × (a ≡ starts x)) ⊎ ((node.0.phase ≡ acting_phase a) ⊎ StandsBefore (actions_of S events) j (start (acting_core a) (acting_phase a)))
+        → ((x : BarrierAction) × (a ≡ starts x)) ⊎ ((x : BarrierAction) × (x.core ≡ acting_core a) × (x.phase ≡ acting_phase a) × StandsBefore (actions_of S events) j (starts x))
     by_part (inl start') = inl start'
-    by_part (inr (inl here)) = absurd (omega (arith, here, late, (first (core_of a) node.0 node.1).0))
-    by_part (inr (inr earlier)) = inr (record { phase = phase_of a; core = core_of a }, refl, refl, earlier)
+    by_part (inr (inl here)) = absurd (omega (arith, here, late, (first (acting_core a) node.0 node.1).0))
+    by_part (inr (inr earlier)) = inr (record { phase = acting_phase a; core = acting_core a }, refl, refl, earlier)
 
-  within : (j : ℕ) (a : Action) → IsAt (actions_of S events) j a → core_of a < C.shape.cores
-  within j a is = let t = all.there j a is in let less = slice_get_within S.nodes (core_of a) t.0 t.1 in omega (arith, less, cores)
+  within : (j : ℕ) (a : Action) → IsAt (actions_of S events) j a → acting_core a < C.shape.cores
+  within j a is = let t = all.there j a is in let less = slice_get_within S.nodes (acting_core a) t.0 t.1 in omega (arith, less, cores)

@@ -13,7 +13,7 @@ use Rattle.machine_rules.specs.Next.{next, enabled}
 use Rattle.machine_rules.specs.Memory.{store_in}
 use Rattle.machine_rules.specs.Runs.{after, IsRun}
 use Rattle.machine_rules.specs.Sound.{IsSound, IsWellFormed}
-use Rattle.machine_rules.specs.Actions.{Access, Action, accesses, acquires, releases, arrives, starts, core_of, PrecedesInProgram}
+use Rattle.machine_rules.specs.Actions.{Access, Action, accesses, acquires, releases, arrives, starts, acting_core, PrecedesInProgram}
 use Rattle.machine_rules.specs.Accesses.{access_in, action_in, actions_of, synchronization_in}
 use Rattle.machine_rules.specs.Consistent.{stores_to, last_stored, word_after, KeepsProgramOrder, ReadsLastStores}
 use Rattle.machine_rules.proofs.Invariant.{Invariant}
@@ -51,7 +51,7 @@ precedes m a b (phase, inr (inr arrived)) (inr (same, absent, later)) = absurd (
 
 record AreOrdered (S : State) (actions : List Action) : Type 0 where
   pub pairs : KeepsProgramOrder actions
-  pub from : (c : ℕ) (n : NodeParts) → slice_get S.nodes c ≡ Some n → All (λ (a : Action). c ≡ core_of a → IsFrom n a) actions
+  pub from : (c : ℕ) (n : NodeParts) → slice_get S.nodes c ≡ Some n → All (λ (a : Action). c ≡ acting_core a → IsFrom n a) actions
 
 no-pairs : KeepsProgramOrder []
 no-pairs i j d less within = absurd (omega (arith, within))
@@ -71,12 +71,12 @@ still-ordered S T o moved actions rest =
 first-ordered : (S T : State) (a : Action) (actions : List Action) → IsDone S T a → AreOrdered T actions → AreOrdered S actions → AreOrdered S (a ∷ actions)
 first-ordered S T a actions done later rest =
     record {
-      pairs = AllPairs-cons (λ (x y : Action). core_of x ≡ core_of y → PrecedesInProgram x y) a actions
-          (λ i d within core. precedes done.later a (get_or actions i d) done.upto (later.from (core_of a) done.later done.now i d within core)) rest.pairs;
-      from = λ c n found. All-cons (λ (x : Action). c ≡ core_of x → IsFrom n x) a actions (here c n found) (rest.from c n found);
+      pairs = AllPairs-cons (λ (x y : Action). acting_core x ≡ acting_core y → PrecedesInProgram x y) a actions
+          (λ i d within core. precedes done.later a (get_or actions i d) done.upto (later.from (acting_core a) done.later done.now i d within core)) rest.pairs;
+      from = λ c n found. All-cons (λ (x : Action). c ≡ acting_core x → IsFrom n x) a actions (here c n found) (rest.from c n found);
     }
   where
-    here : (c : ℕ) (n : NodeParts) → slice_get S.nodes c ≡ Some n → c ≡ core_of a → IsFrom n a
+    here : (c : ℕ) (n : NodeParts) → slice_get S.nodes c ≡ Some n → c ≡ acting_core a → IsFrom n a
     here c n found core =
         let same : n ≡ done.node = same_Some n done.node (sym found ∙ (ap (slice_get S.nodes) core ∙ done.found)) in
         subst (λ (x : NodeParts). IsFrom x a) (sym same) done.from

@@ -5,7 +5,7 @@ use Rattle.std.specs.List.{IsAmong}
 use Rattle.std.proofs.lemmas.Bool.{eqb-true, false≢true}
 use Rattle.std.proofs.lemmas.Bool.Decides.{nat_tests}
 use Rattle.std.proofs.lemmas.Option.{same_Some, none-some, slice_get_within, slice_get-get_or, get_or_from_slice_get}
-use Rattle.machine_rules.specs.Actions.{Access, LockAction, BarrierAction, Action, accesses, acquires, releases, arrives, starts, core_of, phase_of, stage_of, PrecedesInProgram}
+use Rattle.machine_rules.specs.Actions.{Access, LockAction, BarrierAction, Action, accesses, acquires, releases, arrives, starts, acting_core, acting_phase, acting_stage, PrecedesInProgram}
 use Rattle.machine_rules.specs.Consistent.{IsAt, StandsBefore, allows, holder_after, AllowsEach, AreLocksLegal, IsBarrierLegal, KeepsProgramOrder}
 use Rattle.machine_rules.specs.Racing.{Orders, HappensBefore, IsMutuallyExclusive, ArePhasesApart, IsDataRaceFree}
 use Rattle.machine_rules.specs.Guarded.{IsHandedOn, IsSynchronized, IsGuarded}
@@ -62,13 +62,13 @@ at-front (x ∷ xs) ys zero a is = is
 at-front (x ∷ xs) ys (suc k) a is = at-front xs ys k a is
 
 -- two actions of one core stand in the order of its program
-pub in-order : (actions : List Action) (i j : ℕ) (a b : Action) → KeepsProgramOrder actions → i < j → IsAt actions i a → IsAt actions j b → core_of a ≡ core_of b → PrecedesInProgram a b
+pub in-order : (actions : List Action) (i j : ℕ) (a b : Action) → KeepsProgramOrder actions → i < j → IsAt actions i a → IsAt actions j b → acting_core a ≡ acting_core b → PrecedesInProgram a b
 in-order actions i j a b keeps less first second core =
     let one : get_or actions i a ≡ a = get_or_from_slice_get actions i a a first in
     let two : get_or actions j a ≡ b = get_or_from_slice_get actions j b a second in
     let both = keeps i j a less (slice_get_within actions j b second) in
     subst (λ (y : Action). PrecedesInProgram a y) two
-    (subst (λ (x : Action). PrecedesInProgram x (get_or actions j a)) one (both (ap core_of one ∙ (core ∙ ap core_of (sym two)))))
+    (subst (λ (x : Action). PrecedesInProgram x (get_or actions j a)) one (both (ap acting_core one ∙ (core ∙ ap acting_core (sym two)))))
 
 -- ---- locks
 
@@ -142,10 +142,10 @@ excluded actions legal i j x y less first second same =
 pub record IsCrossed (actions : List Action) (c j : ℕ) (a : Action) : Type 0 where
   pub arrival : BarrierAction
   pub core : arrival.core ≡ c
-  pub phase : arrival.phase + 1 ≡ phase_of a
+  pub phase : arrival.phase + 1 ≡ acting_phase a
   pub start : BarrierAction
-  pub own : start.core ≡ core_of a
-  pub begins : start.phase ≡ phase_of a
+  pub own : start.core ≡ acting_core a
+  pub begins : start.phase ≡ acting_phase a
   pub m : ℕ
   pub k : ℕ
   pub at_arrival : IsAt actions m (arrives arrival)
@@ -153,20 +153,20 @@ pub record IsCrossed (actions : List Action) (c j : ℕ) (a : Action) : Type 0 w
   pub less : m < k
   pub later : (k < j) ⊎ ((k ≡ j) × (a ≡ starts start))
 
-pub crossed : (cores : ℕ) (actions : List Action) (c j : ℕ) (a : Action) → IsBarrierLegal cores actions → c < cores → IsAt actions j a → 0 < phase_of a → IsCrossed actions c j a
+pub crossed : (cores : ℕ) (actions : List Action) (c j : ℕ) (a : Action) → IsBarrierLegal cores actions → c < cores → IsAt actions j a → 0 < acting_phase a → IsCrossed actions c j a
 crossed cores actions c j a legal within is late = by_part (legal.begun j a is late) where
-  by_start : (x : BarrierAction) (k : ℕ) → x.core ≡ core_of a → x.phase ≡ phase_of a → IsAt actions k (starts x) → (k < j) ⊎ ((k ≡ j) × (a ≡ starts x)) → IsCrossed actions c j a
+  by_start : (x : BarrierAction) (k : ℕ) → x.core ≡ acting_core a → x.phase ≡ acting_phase a → IsAt actions k (starts x) → (k < j) ⊎ ((k ≡ j) × (a ≡ starts x)) → IsCrossed actions c j a
   by_start x k own begins at later =
       let t = legal.together k x c at within in
       let (m, less, there) = t.3 in
       record { arrival = t.0; core = t.1; phase = t.2 ∙ begins; start = x; own = own; begins = begins; m = m; k = k; at_arrival = there; at_start = at; less = less; later = later }
 
-  by_part : ((x : BarrierAction) × (a ≡ starts x)) ⊎ ((x : BarrierAction) × (x.core ≡ core_of a) × (x.phase ≡ phase_of a) × StandsBefore actions j (starts x)) → IsCrossed actions c j a
-  by_part (inl (x, same)) = by_start x j (ap core_of (sym same)) (ap phase_of (sym same)) (is ∙ ap (λ (y : Action). Some y) same) (inr (refl, same))
+  by_part : ((x : BarrierAction) × (a ≡ starts x)) ⊎ ((x : BarrierAction) × (x.core ≡ acting_core a) × (x.phase ≡ acting_phase a) × StandsBefore actions j (starts x)) → IsCrossed actions c j a
+  by_part (inl (x, same)) = by_start x j (ap acting_core (sym same)) (ap acting_phase (sym same)) (is ∙ ap (λ (y : Action). Some y) same) (inr (refl, same))
   by_part (inr (x, own, begins, (k, less, at))) = by_start x k own begins at (inl less)
 
 -- an arrival is the last action of its core in a phase
-last-in-phase : (x : BarrierAction) (b : Action) → PrecedesInProgram (arrives x) b → phase_of b ≤ x.phase → stage_of b ≤ 2 → ⊥
+last-in-phase : (x : BarrierAction) (b : Action) → PrecedesInProgram (arrives x) b → acting_phase b ≤ x.phase → acting_stage b ≤ 2 → ⊥
 last-in-phase x b (inl later) low stage = omega (arith, later, low)
 last-in-phase x b (inr (same, inl after)) low stage = omega (arith, after, stage)
 last-in-phase x (arrives y) (inr (same, inr (equal, place))) low stage = omega (arith, place)
@@ -176,7 +176,7 @@ last-in-phase x (releases y) (inr (same, inr (equal, place))) low stage = omega 
 last-in-phase x (starts y) (inr (same, inr (equal, place))) low stage = omega (arith, equal)
 
 -- an action of a core stands before its arrival in the same phase or a later one, or is that arrival
-pub not-after : (actions : List Action) (i m : ℕ) (b : Action) (x : BarrierAction) → KeepsProgramOrder actions → IsAt actions i b → IsAt actions m (arrives x) → core_of b ≡ x.core → phase_of b ≤ x.phase → stage_of b ≤ 2
+pub not-after : (actions : List Action) (i m : ℕ) (b : Action) (x : BarrierAction) → KeepsProgramOrder actions → IsAt actions i b → IsAt actions m (arrives x) → acting_core b ≡ x.core → acting_phase b ≤ x.phase → acting_stage b ≤ 2
     → i ≤ m
 not-after actions i m b x keeps first second core low stage = by_place (nat_lt m i) refl where
   by_place : (t : Bool) → nat_lt m i ≡ t → i ≤ m
@@ -195,7 +195,7 @@ apart cores actions keeps legal i j a x first second later =
 
 -- ---- happens before
 
-one-core : (actions : List Action) (i j : ℕ) (a b : Action) → i < j → IsAt actions i a → IsAt actions j b → core_of a ≡ core_of b → Orders actions i j
+one-core : (actions : List Action) (i j : ℕ) (a b : Action) → i < j → IsAt actions i a → IsAt actions j b → acting_core a ≡ acting_core b → Orders actions i j
 one-core actions i j a b less first second core = record { earlier = less; first = a; second = b; at_first = first; at_second = second; by = inl core }
 
 -- accesses of different phases

@@ -8,10 +8,10 @@ use Rattle.std.proofs.lemmas.Bool.Decides.{nat_tests}
 use Rattle.std.proofs.lemmas.Option.{same_Some, none-some, slice_get_within, slice_get-get_or, get_or_from_slice_get}
 use Rattle.std.proofs.lemmas.List.Elements.{All-cons, All-nil}
 use Rattle.std.proofs.lemmas.List.Sorted.{All-permutation, Contains-permutation}
-use Rattle.machine_rules.specs.Actions.{Access, LockAction, BarrierAction, Action, accesses, acquires, releases, arrives, starts, core_of, place_of, PrecedesInProgram}
+use Rattle.machine_rules.specs.Actions.{Access, LockAction, BarrierAction, Action, accesses, acquires, releases, arrives, starts, acting_core, acting_place, PrecedesInProgram}
 use Rattle.machine_rules.specs.Consistent.{IsAt, stores_to, last_stored, AreLocksLegal, IsBarrierLegal, IsSequentialOrder}
 use Rattle.machine_rules.specs.Racing.{SynchronizesWith, Orders, IsPath, HappensBefore, IsDataRaceFree, IsMutuallyExclusive, ArePhasesApart}
-use Rattle.machine_rules.specs.Litmus.{store_in, store, load, acquire, arrive, start, zeros, store_buffering, message_passing, read_read, independent_reads, unordered_stores, grant_without_release, early_start}
+use Rattle.machine_rules.specs.Litmus.{core_stores_in, core_stores, core_loads, core_acquires, core_arrives, core_starts, zeros, store_buffering, message_passing, read_read, independent_reads, unordered_stores, grant_without_release, early_start}
 use Rattle.machine_rules.proofs.PathLemmas.{IsCut, cut, at-front, in-order}
 
 -- ---- places of an order
@@ -27,7 +27,7 @@ holds : {actions order : List Action} (P : Action → Type 0) (p : ℕ) (a : Act
 holds {actions} {order} P p a all each is = subst P (get_or_from_slice_get order p a a is) (All-permutation P actions order all each p a (slice_get_within order p a is))
 
 -- what comes first in a core's program comes first in the order
-program-first : {cores : ℕ} {first : List ℕ} {actions order : List Action} (a b : Action) (p q : ℕ) → IsSequentialOrder cores first actions order → IsAt order p a → IsAt order q b → core_of a ≡ core_of b
+program-first : {cores : ℕ} {first : List ℕ} {actions order : List Action} (a b : Action) (p q : ℕ) → IsSequentialOrder cores first actions order → IsAt order p a → IsAt order q b → acting_core a ≡ acting_core b
     → (PrecedesInProgram b a → ⊥) → (a ≡ b → ⊥) → p < q
 program-first {order = order} a b p q is at_a at_b core before differ = by_place (nat_lt p q) (nat_lt q p) refl refl where
   by_place : (x y : Bool) → nat_lt p q ≡ x → nat_lt q p ≡ y → p < q
@@ -126,7 +126,7 @@ task-first : {cores : ℕ} {first : List ℕ} {actions order : List Action} (a b
     → a.core ≡ b.core → a.phase ≡ b.phase → a.place < b.place → p < q
 task-first a b p q is at_a at_b core phase place =
     program-first (accesses a) (accesses b) p q is at_a at_b core before
-    (λ same. let one : a.place ≡ b.place = ap place_of same in omega (arith, place, one))
+    (λ same. let one : a.place ≡ b.place = ap acting_place same in omega (arith, place, one))
   where
     before : PrecedesInProgram (accesses b) (accesses a) → ⊥
     before (inl less) = omega (arith, less, phase)
@@ -155,69 +155,69 @@ all-six P a b c d e f g h i j k l = All-cons P a (b ∷ c ∷ d ∷ e ∷ f ∷ 
 pub no-store_buffering : (order : List Action) → IsSequentialOrder 2 zeros store_buffering order → ⊥
 unfolding written seen
 no-store_buffering order is =
-    let (a, at_a) = there 0 (store 0 0 0 1) is.all refl in
-    let (b, at_b) = there 1 (load 0 1 1 0) is.all refl in
-    let (c, at_c) = there 2 (store 1 0 1 1) is.all refl in
-    let (d, at_d) = there 3 (load 1 1 0 0) is.all refl in
+    let (a, at_a) = there 0 (core_stores 0 0 0 1) is.all refl in
+    let (b, at_b) = there 1 (core_loads 0 1 1 0) is.all refl in
+    let (c, at_c) = there 2 (core_stores 1 0 1 1) is.all refl in
+    let (d, at_d) = there 3 (core_loads 1 1 0 0) is.all refl in
     let one = task-first (written 0 0 0 1) (seen 0 1 1 0) a b is at_a at_b refl refl (omega arith) in
     let two = task-first (written 1 0 1 1) (seen 1 1 0 0) c d is at_c at_d refl refl (omega arith) in
-    let three = before-store (seen 0 1 1 0) (store 1 0 1 1) b c is (only 1 (store 1 0 1 1) (other 1 _ _ refl) (other 1 _ _ refl) (mine 1 _ refl) (other 1 _ _ refl)) at_b refl at_c refl in
-    let four = before-store (seen 1 1 0 0) (store 0 0 0 1) d a is (only 0 (store 0 0 0 1) (mine 0 _ refl) (other 0 _ _ refl) (other 0 _ _ refl) (other 0 _ _ refl)) at_d refl at_a refl in
+    let three = before-store (seen 0 1 1 0) (core_stores 1 0 1 1) b c is (only 1 (core_stores 1 0 1 1) (other 1 _ _ refl) (other 1 _ _ refl) (mine 1 _ refl) (other 1 _ _ refl)) at_b refl at_c refl in
+    let four = before-store (seen 1 1 0 0) (core_stores 0 0 0 1) d a is (only 0 (core_stores 0 0 0 1) (mine 0 _ refl) (other 0 _ _ refl) (other 0 _ _ refl) (other 0 _ _ refl)) at_d refl at_a refl in
     omega (arith, one, two, three, four)
   where
-    only : (w : ℕ) (s : Action) → IsOnlyStore w s (store 0 0 0 1) → IsOnlyStore w s (load 0 1 1 0) → IsOnlyStore w s (store 1 0 1 1) → IsOnlyStore w s (load 1 1 0 0) → All (IsOnlyStore w s) store_buffering
-    only w s e f g h = all-four (IsOnlyStore w s) (store 0 0 0 1) (load 0 1 1 0) (store 1 0 1 1) (load 1 1 0 0) e f g h
+    only : (w : ℕ) (s : Action) → IsOnlyStore w s (core_stores 0 0 0 1) → IsOnlyStore w s (core_loads 0 1 1 0) → IsOnlyStore w s (core_stores 1 0 1 1) → IsOnlyStore w s (core_loads 1 1 0 0) → All (IsOnlyStore w s) store_buffering
+    only w s e f g h = all-four (IsOnlyStore w s) (core_stores 0 0 0 1) (core_loads 0 1 1 0) (core_stores 1 0 1 1) (core_loads 1 1 0 0) e f g h
 
 pub no-message_passing : (order : List Action) → IsSequentialOrder 2 zeros message_passing order → ⊥
 unfolding written seen
 no-message_passing order is =
-    let (a, at_a) = there 0 (store 0 0 0 1) is.all refl in
-    let (c, at_c) = there 2 (load 1 0 1 1) is.all refl in
-    let (d, at_d) = there 3 (load 1 1 0 0) is.all refl in
-    let (b, before, at_b) = after-store (seen 1 0 1 1) (store 0 1 1 1) c is (only 1 (store 0 1 1 1) (other 1 _ _ refl) (mine 1 _ refl) (other 1 _ _ refl) (other 1 _ _ refl)) at_c refl (one-not-zero 0 refl) in
+    let (a, at_a) = there 0 (core_stores 0 0 0 1) is.all refl in
+    let (c, at_c) = there 2 (core_loads 1 0 1 1) is.all refl in
+    let (d, at_d) = there 3 (core_loads 1 1 0 0) is.all refl in
+    let (b, before, at_b) = after-store (seen 1 0 1 1) (core_stores 0 1 1 1) c is (only 1 (core_stores 0 1 1 1) (other 1 _ _ refl) (mine 1 _ refl) (other 1 _ _ refl) (other 1 _ _ refl)) at_c refl (one-not-zero 0 refl) in
     let one = task-first (written 0 0 0 1) (written 0 1 1 1) a b is at_a at_b refl refl (omega arith) in
     let two = task-first (seen 1 0 1 1) (seen 1 1 0 0) c d is at_c at_d refl refl (omega arith) in
-    let three = before-store (seen 1 1 0 0) (store 0 0 0 1) d a is (only 0 (store 0 0 0 1) (mine 0 _ refl) (other 0 _ _ refl) (other 0 _ _ refl) (other 0 _ _ refl)) at_d refl at_a refl in
+    let three = before-store (seen 1 1 0 0) (core_stores 0 0 0 1) d a is (only 0 (core_stores 0 0 0 1) (mine 0 _ refl) (other 0 _ _ refl) (other 0 _ _ refl) (other 0 _ _ refl)) at_d refl at_a refl in
     omega (arith, one, two, three, before)
   where
-    only : (w : ℕ) (s : Action) → IsOnlyStore w s (store 0 0 0 1) → IsOnlyStore w s (store 0 1 1 1) → IsOnlyStore w s (load 1 0 1 1) → IsOnlyStore w s (load 1 1 0 0) → All (IsOnlyStore w s) message_passing
-    only w s e f g h = all-four (IsOnlyStore w s) (store 0 0 0 1) (store 0 1 1 1) (load 1 0 1 1) (load 1 1 0 0) e f g h
+    only : (w : ℕ) (s : Action) → IsOnlyStore w s (core_stores 0 0 0 1) → IsOnlyStore w s (core_stores 0 1 1 1) → IsOnlyStore w s (core_loads 1 0 1 1) → IsOnlyStore w s (core_loads 1 1 0 0) → All (IsOnlyStore w s) message_passing
+    only w s e f g h = all-four (IsOnlyStore w s) (core_stores 0 0 0 1) (core_stores 0 1 1 1) (core_loads 1 0 1 1) (core_loads 1 1 0 0) e f g h
 
 pub no-read_read : (order : List Action) → IsSequentialOrder 2 zeros read_read order → ⊥
 unfolding written seen
 no-read_read order is =
-    let (c, at_c) = there 1 (load 1 0 0 1) is.all refl in
-    let (d, at_d) = there 2 (load 1 1 0 0) is.all refl in
-    let (a, before, at_a) = after-store (seen 1 0 0 1) (store 0 0 0 1) c is only at_c refl (one-not-zero 0 refl) in
+    let (c, at_c) = there 1 (core_loads 1 0 0 1) is.all refl in
+    let (d, at_d) = there 2 (core_loads 1 1 0 0) is.all refl in
+    let (a, before, at_a) = after-store (seen 1 0 0 1) (core_stores 0 0 0 1) c is only at_c refl (one-not-zero 0 refl) in
     let one = task-first (seen 1 0 0 1) (seen 1 1 0 0) c d is at_c at_d refl refl (omega arith) in
-    let two = before-store (seen 1 1 0 0) (store 0 0 0 1) d a is only at_d refl at_a refl in
+    let two = before-store (seen 1 1 0 0) (core_stores 0 0 0 1) d a is only at_d refl at_a refl in
     omega (arith, one, two, before)
   where
-    only : All (IsOnlyStore 0 (store 0 0 0 1)) read_read
+    only : All (IsOnlyStore 0 (core_stores 0 0 0 1)) read_read
     only =
-        all-three (IsOnlyStore 0 (store 0 0 0 1)) (store 0 0 0 1) (load 1 0 0 1) (load 1 1 0 0) (mine 0 (store 0 0 0 1) refl) (other 0 (store 0 0 0 1) (load 1 0 0 1) refl)
-        (other 0 (store 0 0 0 1) (load 1 1 0 0) refl)
+        all-three (IsOnlyStore 0 (core_stores 0 0 0 1)) (core_stores 0 0 0 1) (core_loads 1 0 0 1) (core_loads 1 1 0 0) (mine 0 (core_stores 0 0 0 1) refl) (other 0 (core_stores 0 0 0 1) (core_loads 1 0 0 1) refl)
+        (other 0 (core_stores 0 0 0 1) (core_loads 1 1 0 0) refl)
 
 pub no-independent_reads : (order : List Action) → IsSequentialOrder 4 zeros independent_reads order → ⊥
 unfolding written seen
 no-independent_reads order is =
-    let (c, at_c) = there 2 (load 2 0 0 1) is.all refl in
-    let (d, at_d) = there 3 (load 2 1 1 0) is.all refl in
-    let (e, at_e) = there 4 (load 3 0 1 1) is.all refl in
-    let (f, at_f) = there 5 (load 3 1 0 0) is.all refl in
-    let first = only 0 (store 0 0 0 1) (mine 0 _ refl) (other 0 _ _ refl) (other 0 _ _ refl) (other 0 _ _ refl) (other 0 _ _ refl) (other 0 _ _ refl) in
-    let second = only 1 (store 1 0 1 1) (other 1 _ _ refl) (mine 1 _ refl) (other 1 _ _ refl) (other 1 _ _ refl) (other 1 _ _ refl) (other 1 _ _ refl) in
-    let (a, before_c, at_a) = after-store (seen 2 0 0 1) (store 0 0 0 1) c is first at_c refl (one-not-zero 0 refl) in
-    let (b, before_e, at_b) = after-store (seen 3 0 1 1) (store 1 0 1 1) e is second at_e refl (one-not-zero 0 refl) in
+    let (c, at_c) = there 2 (core_loads 2 0 0 1) is.all refl in
+    let (d, at_d) = there 3 (core_loads 2 1 1 0) is.all refl in
+    let (e, at_e) = there 4 (core_loads 3 0 1 1) is.all refl in
+    let (f, at_f) = there 5 (core_loads 3 1 0 0) is.all refl in
+    let first = only 0 (core_stores 0 0 0 1) (mine 0 _ refl) (other 0 _ _ refl) (other 0 _ _ refl) (other 0 _ _ refl) (other 0 _ _ refl) (other 0 _ _ refl) in
+    let second = only 1 (core_stores 1 0 1 1) (other 1 _ _ refl) (mine 1 _ refl) (other 1 _ _ refl) (other 1 _ _ refl) (other 1 _ _ refl) (other 1 _ _ refl) in
+    let (a, before_c, at_a) = after-store (seen 2 0 0 1) (core_stores 0 0 0 1) c is first at_c refl (one-not-zero 0 refl) in
+    let (b, before_e, at_b) = after-store (seen 3 0 1 1) (core_stores 1 0 1 1) e is second at_e refl (one-not-zero 0 refl) in
     let one = task-first (seen 2 0 0 1) (seen 2 1 1 0) c d is at_c at_d refl refl (omega arith) in
     let two = task-first (seen 3 0 1 1) (seen 3 1 0 0) e f is at_e at_f refl refl (omega arith) in
-    let three = before-store (seen 2 1 1 0) (store 1 0 1 1) d b is second at_d refl at_b refl in
-    let four = before-store (seen 3 1 0 0) (store 0 0 0 1) f a is first at_f refl at_a refl in
+    let three = before-store (seen 2 1 1 0) (core_stores 1 0 1 1) d b is second at_d refl at_b refl in
+    let four = before-store (seen 3 1 0 0) (core_stores 0 0 0 1) f a is first at_f refl at_a refl in
     omega (arith, one, two, three, four, before_c, before_e)
   where
-    only : (w : ℕ) (s : Action) → IsOnlyStore w s (store 0 0 0 1) → IsOnlyStore w s (store 1 0 1 1) → IsOnlyStore w s (load 2 0 0 1) → IsOnlyStore w s (load 2 1 1 0) → IsOnlyStore w s (load 3 0 1 1) → IsOnlyStore w s (load 3 1 0 0)
+    only : (w : ℕ) (s : Action) → IsOnlyStore w s (core_stores 0 0 0 1) → IsOnlyStore w s (core_stores 1 0 1 1) → IsOnlyStore w s (core_loads 2 0 0 1) → IsOnlyStore w s (core_loads 2 1 1 0) → IsOnlyStore w s (core_loads 3 0 1 1) → IsOnlyStore w s (core_loads 3 1 0 0)
         → All (IsOnlyStore w s) independent_reads
-    only w s e f g h i j = all-six (IsOnlyStore w s) (store 0 0 0 1) (store 1 0 1 1) (load 2 0 0 1) (load 2 1 1 0) (load 3 0 1 1) (load 3 1 0 0) e f g h i j
+    only w s e f g h i j = all-six (IsOnlyStore w s) (core_stores 0 0 0 1) (core_stores 1 0 1 1) (core_loads 2 0 0 1) (core_loads 2 1 1 0) (core_loads 3 0 1 1) (core_loads 3 1 0 0) e f g h i j
 
 -- ---- what nothing orders
 
@@ -229,15 +229,15 @@ no-synchronization a (arrives x) s = s
 no-synchronization a (starts x) s = s
 
 -- an access that no later action of its core follows happens before nothing
-no-way : (actions : List Action) (i : ℕ) (a : Access) → IsAt actions i (accesses a) → ((k : ℕ) (b : Action) → i < k → IsAt actions k b → core_of b ≡ a.core → ⊥) → (j : ℕ) → HappensBefore actions i j → ⊥
+no-way : (actions : List Action) (i : ℕ) (a : Access) → IsAt actions i (accesses a) → ((k : ℕ) (b : Action) → i < k → IsAt actions k b → acting_core b ≡ a.core → ⊥) → (j : ℕ) → HappensBefore actions i j → ⊥
 no-way actions i a at last j (through, path) = by_path through path where
   first-step : (k : ℕ) → Orders actions i k → ⊥
   first-step k o = by_order o.by where
     same : o.first ≡ accesses a
     same = same_Some o.first (accesses a) (sym o.at_first ∙ at)
 
-    by_order : (core_of o.first ≡ core_of o.second) ⊎ SynchronizesWith o.first o.second → ⊥
-    by_order (inl core) = last k o.second o.earlier o.at_second (sym core ∙ ap core_of same)
+    by_order : (acting_core o.first ≡ acting_core o.second) ⊎ SynchronizesWith o.first o.second → ⊥
+    by_order (inl core) = last k o.second o.earlier o.at_second (sym core ∙ ap acting_core same)
     by_order (inr s) = no-synchronization a o.second (subst (λ (x : Action). SynchronizesWith x o.second) same s)
 
   by_path : (through : List ℕ) → IsPath actions i through j → ⊥
@@ -248,8 +248,8 @@ stores-differ : (x y : Option ℕ) → x ≡ Some 1 → x ≡ None → ⊥
 stores-differ x y one none = none-some 1 (sym none ∙ one)
 
 -- the core of the action at a later place
-core-differs : (actions : List Action) (k c d : ℕ) (b x : Action) → IsAt actions k b → IsAt actions k x → core_of x ≡ c → (c ≡ d → ⊥) → core_of b ≡ d → ⊥
-core-differs actions k c d b x at_b at_x core apart is = apart (sym core ∙ (ap core_of (same_Some x b (sym at_x ∙ at_b)) ∙ is))
+core-differs : (actions : List Action) (k c d : ℕ) (b x : Action) → IsAt actions k b → IsAt actions k x → acting_core x ≡ c → (c ≡ d → ⊥) → acting_core b ≡ d → ⊥
+core-differs actions k c d b x at_b at_x core apart is = apart (sym core ∙ (ap acting_core (same_Some x b (sym at_x ∙ at_b)) ∙ is))
 
 pub unordered-race : IsDataRaceFree unordered_stores → ⊥
 unfolding written
@@ -257,9 +257,9 @@ unordered-race free =
     no-way unordered_stores 0 (written 0 0 0 1) refl last 1
     (free 0 1 (written 0 0 0 1) (written 1 0 0 2) (omega arith) refl refl (record { cores = λ e. omega (arith, e); word = refl; store = inl (λ none. none-some 1 (sym none)) }))
   where
-    last : (k : ℕ) (b : Action) → 0 < k → IsAt unordered_stores k b → core_of b ≡ 0 → ⊥
+    last : (k : ℕ) (b : Action) → 0 < k → IsAt unordered_stores k b → acting_core b ≡ 0 → ⊥
     last zero b less at core = omega (arith, less)
-    last (suc zero) b less at core = core-differs unordered_stores 1 1 0 b (store 1 0 0 2) at refl refl (λ e. omega (arith, e)) core
+    last (suc zero) b less at core = core-differs unordered_stores 1 1 0 b (core_stores 1 0 0 2) at refl refl (λ e. omega (arith, e)) core
     last (suc (suc k)) b less at core = none-some b at
 
 pub grant-race : IsDataRaceFree grant_without_release → ⊥
@@ -268,11 +268,11 @@ grant-race free =
     no-way grant_without_release 1 (written 0 1 0 1) refl last 3
     (free 1 3 (written 0 1 0 1) (written 1 1 0 2) (omega arith) refl refl (record { cores = λ e. omega (arith, e); word = refl; store = inl (λ none. none-some 1 (sym none)) }))
   where
-    last : (k : ℕ) (b : Action) → 1 < k → IsAt grant_without_release k b → core_of b ≡ 0 → ⊥
+    last : (k : ℕ) (b : Action) → 1 < k → IsAt grant_without_release k b → acting_core b ≡ 0 → ⊥
     last zero b less at core = omega (arith, less)
     last (suc zero) b less at core = omega (arith, less)
-    last (suc (suc zero)) b less at core = core-differs grant_without_release 2 1 0 b (acquire 1 0) at refl refl (λ e. omega (arith, e)) core
-    last (suc (suc (suc zero))) b less at core = core-differs grant_without_release 3 1 0 b (store 1 1 0 2) at refl refl (λ e. omega (arith, e)) core
+    last (suc (suc zero)) b less at core = core-differs grant_without_release 2 1 0 b (core_acquires 1 0 0) at refl refl (λ e. omega (arith, e)) core
+    last (suc (suc (suc zero))) b less at core = core-differs grant_without_release 3 1 0 b (core_stores 1 1 0 2) at refl refl (λ e. omega (arith, e)) core
     last (suc (suc (suc (suc k)))) b less at core = none-some b at
 
 pub start-race : IsDataRaceFree early_start → ⊥
@@ -284,13 +284,13 @@ start-race free =
     early : Access
     early = record { phase = 1; core = 0; place = 0; held = 0; word = 0; read = None; written = Some 1 }
 
-    last : (k : ℕ) (b : Action) → 2 < k → IsAt early_start k b → core_of b ≡ 0 → ⊥
+    last : (k : ℕ) (b : Action) → 2 < k → IsAt early_start k b → acting_core b ≡ 0 → ⊥
     last zero b less at core = omega (arith, less)
     last (suc zero) b less at core = omega (arith, less)
     last (suc (suc zero)) b less at core = omega (arith, less)
-    last (suc (suc (suc zero))) b less at core = core-differs early_start 3 1 0 b (store 1 0 0 2) at refl refl (λ e. omega (arith, e)) core
-    last (suc (suc (suc (suc zero)))) b less at core = core-differs early_start 4 1 0 b (arrive 1 0) at refl refl (λ e. omega (arith, e)) core
-    last (suc (suc (suc (suc (suc zero))))) b less at core = core-differs early_start 5 1 0 b (start 1 1) at refl refl (λ e. omega (arith, e)) core
+    last (suc (suc (suc zero))) b less at core = core-differs early_start 3 1 0 b (core_stores 1 0 0 2) at refl refl (λ e. omega (arith, e)) core
+    last (suc (suc (suc (suc zero)))) b less at core = core-differs early_start 4 1 0 b (core_arrives 1 0) at refl refl (λ e. omega (arith, e)) core
+    last (suc (suc (suc (suc (suc zero))))) b less at core = core-differs early_start 5 1 0 b (core_starts 1 1) at refl refl (λ e. omega (arith, e)) core
     last (suc (suc (suc (suc (suc (suc k)))))) b less at core = none-some b at
 
 -- ---- what a lock and the barrier refuse
@@ -303,12 +303,12 @@ grant-excluded excluded =
     let (k, z, low, high, at, lock, core) = excluded 0 2 (record { phase = 0; core = 0; place = 0; lock = 0 }) (record { phase = 0; core = 1; place = 0; lock = 0 }) (omega arith) refl refl refl in
     between k z low high at
   where
-    differ : (z : LockAction) → store 0 1 0 1 ≡ releases z → ⊥
+    differ : (z : LockAction) → core_stores 0 1 0 1 ≡ releases z → ⊥
     differ z e = cc
 
     between : (k : ℕ) (z : LockAction) → 0 < k → k < 2 → IsAt grant_without_release k (releases z) → ⊥
     between zero z low high at = omega (arith, low)
-    between (suc zero) z low high at = differ z (same_Some (store 0 1 0 1) (releases z) at)
+    between (suc zero) z low high at = differ z (same_Some (core_stores 0 1 0 1) (releases z) at)
     between (suc (suc k)) z low high at = omega (arith, high)
 
 pub start-refused : IsBarrierLegal 2 early_start → ⊥
@@ -317,10 +317,10 @@ start-refused legal =
     before i y core less at
   where
     before : (i : ℕ) (y : BarrierAction) → y.core ≡ 1 → i < 1 → IsAt early_start i (arrives y) → ⊥
-    before zero y core less at = let one : 0 ≡ y.core = ap core_of (same_Some (arrive 0 0) (arrives y) at) in omega (arith, one, core)
+    before zero y core less at = let one : 0 ≡ y.core = ap acting_core (same_Some (core_arrives 0 0) (arrives y) at) in omega (arith, one, core)
     before (suc i) y core less at = omega (arith, less)
 
 pub start-apart : ArePhasesApart early_start → ⊥
 start-apart apart =
-    let less = apart 4 2 (store_in 1 0 0 0 1) (record { phase = 0; core = 1 }) refl refl (omega arith) in
+    let less = apart 4 2 (core_stores_in 1 0 0 0 1) (record { phase = 0; core = 1 }) refl refl (omega arith) in
     omega (arith, less)

@@ -31,7 +31,7 @@ use Rattle.machine_rules.specs.State.{State}
 use Rattle.machine_rules.specs.Next.{next, enabled}
 use Rattle.machine_rules.specs.Flight.{bit, flight, is_go_to}
 use Rattle.machine_rules.specs.Coherent.{has_lock, holds_lock}
-use Rattle.machine_rules.specs.Actions.{LockAction, BarrierAction, Action, acquires, releases, arrives, starts, core_of, phase_of, stage_of, place_of}
+use Rattle.machine_rules.specs.Actions.{LockAction, BarrierAction, Action, acquires, releases, arrives, starts, acting_core, acting_phase, acting_stage, acting_place}
 use Rattle.machine_rules.specs.Accesses.{synchronization_in}
 use Rattle.machine_rules.proofs.Invariant.{Invariant}
 use Rattle.machine_rules.proofs.Steps.{NodeStep}
@@ -85,17 +85,17 @@ pub record IsLost (c l : ℕ) (synchronization : Option Action) : Type 0 where
 
 -- whether an action is one that a core at this node may still do, and whether it is one that a core at this node has done
 abbrev pub IsFrom : NodeParts → Action → Type 0
-IsFrom n a = (n.phase < phase_of a) ⊎ ((n.phase ≡ phase_of a) × (n.arrived ≡ false) × ((1 < stage_of a) ⊎ ((stage_of a ≡ 1) × (retired_so_far n.task ≤ place_of a))))
+IsFrom n a = (n.phase < acting_phase a) ⊎ ((n.phase ≡ acting_phase a) × (n.arrived ≡ false) × ((1 < acting_stage a) ⊎ ((acting_stage a ≡ 1) × (retired_so_far n.task ≤ acting_place a))))
 
 abbrev pub IsUpTo : NodeParts → Action → Type 0
-IsUpTo m a = (phase_of a ≡ m.phase) × ((stage_of a ≡ 0) ⊎ (((stage_of a ≡ 1) × (place_of a < retired_so_far m.task)) ⊎ (m.arrived ≡ true)))
+IsUpTo m a = (acting_phase a ≡ m.phase) × ((acting_stage a ≡ 0) ⊎ (((acting_stage a ≡ 1) × (acting_place a < retired_so_far m.task)) ⊎ (m.arrived ≡ true)))
 
 -- the action that a core does by an event, between its nodes before and after it
 pub record IsDone (S T : State) (a : Action) : Type 0 where
   pub node : NodeParts
-  pub found : slice_get S.nodes (core_of a) ≡ Some node
+  pub found : slice_get S.nodes (acting_core a) ≡ Some node
   pub later : NodeParts
-  pub now : slice_get T.nodes (core_of a) ≡ Some later
+  pub now : slice_get T.nodes (acting_core a) ≡ Some later
   pub from : IsFrom node a
   pub upto : IsUpTo later a
 

@@ -34,36 +34,36 @@ pub data Action : Type 0 where
   starts : BarrierAction → Action
 
 -- the core that acts
-abbrev pub core_of : Action → ℕ
-core_of (accesses a) = a.core
-core_of (acquires x) = x.core
-core_of (releases x) = x.core
-core_of (arrives x) = x.core
-core_of (starts x) = x.core
+abbrev pub acting_core : Action → ℕ
+acting_core (accesses a) = a.core
+acting_core (acquires x) = x.core
+acting_core (releases x) = x.core
+acting_core (arrives x) = x.core
+acting_core (starts x) = x.core
 
 -- the phase in which it acts
-abbrev pub phase_of : Action → ℕ
-phase_of (accesses a) = a.phase
-phase_of (acquires x) = x.phase
-phase_of (releases x) = x.phase
-phase_of (arrives x) = x.phase
-phase_of (starts x) = x.phase
+abbrev pub acting_phase : Action → ℕ
+acting_phase (accesses a) = a.phase
+acting_phase (acquires x) = x.phase
+acting_phase (releases x) = x.phase
+acting_phase (arrives x) = x.phase
+acting_phase (starts x) = x.phase
 
 -- what a core does in a phase: it starts, its task accesses words and locks, each at its place, and it arrives
-abbrev pub stage_of : Action → ℕ
-stage_of (starts x) = 0
-stage_of (arrives x) = 2
-stage_of _ = 1
+abbrev pub acting_stage : Action → ℕ
+acting_stage (starts x) = 0
+acting_stage (arrives x) = 2
+acting_stage _ = 1
 
-abbrev pub place_of : Action → ℕ
-place_of (accesses a) = a.place
-place_of (acquires x) = x.place
-place_of (releases x) = x.place
-place_of _ = 0
+abbrev pub acting_place : Action → ℕ
+acting_place (accesses a) = a.place
+acting_place (acquires x) = x.place
+acting_place (releases x) = x.place
+acting_place _ = 0
 
 -- a core's program has the first action before the second
 abbrev pub PrecedesInPhase : Action → Action → Type 0
-PrecedesInPhase a b = (stage_of a < stage_of b) ⊎ ((stage_of a ≡ stage_of b) × (place_of a < place_of b))
+PrecedesInPhase a b = (acting_stage a < acting_stage b) ⊎ ((acting_stage a ≡ acting_stage b) × (acting_place a < acting_place b))
 
 abbrev pub PrecedesInProgram : Action → Action → Type 0
-PrecedesInProgram a b = (phase_of a < phase_of b) ⊎ ((phase_of a ≡ phase_of b) × PrecedesInPhase a b)
+PrecedesInProgram a b = (acting_phase a < acting_phase b) ⊎ ((acting_phase a ≡ acting_phase b) × PrecedesInPhase a b)

@@ -5,7 +5,7 @@ use Rattle.std.specs.Prelude.{◌≡◌, ◌⊎◌, ℕ, ◌+◌, ◌<◌, ◌==
 use Rattle.std.specs.Option.{option_or, is_none}
 use Rattle.std.specs.List.{AllPairs}
 use Rattle.std.specs.List.Sorted.{IsPermutation}
-use Rattle.machine_rules.specs.Actions.{Access, BarrierAction, Action, accesses, acquires, releases, arrives, starts, core_of, phase_of, PrecedesInProgram}
+use Rattle.machine_rules.specs.Actions.{Access, BarrierAction, Action, accesses, acquires, releases, arrives, starts, acting_core, acting_phase, PrecedesInProgram}
 
 -- the action at a place of a list
 abbrev pub IsAt : List Action → ℕ → Action → Type 0
@@ -72,16 +72,16 @@ pub record IsBarrierLegal (cores : ℕ) (order : List Action) : Type 0 where
   pub together : (j : ℕ) (x : BarrierAction) (core : ℕ) → IsAt order j (starts x) → core < cores
       → (y : BarrierAction) × (y.core ≡ core) × (y.phase + 1 ≡ x.phase) × StandsBefore order j (arrives y)
   -- it does nothing else in a phase after the first before it has started it
-  pub begun : (j : ℕ) (a : Action) → IsAt order j a → 0 < phase_of a
-      → ((x : BarrierAction) × (a ≡ starts x)) ⊎ ((x : BarrierAction) × (x.core ≡ core_of a) × (x.phase ≡ phase_of a) × StandsBefore order j (starts x))
+  pub begun : (j : ℕ) (a : Action) → IsAt order j a → 0 < acting_phase a
+      → ((x : BarrierAction) × (a ≡ starts x)) ⊎ ((x : BarrierAction) × (x.core ≡ acting_core a) × (x.phase ≡ acting_phase a) × StandsBefore order j (starts x))
   -- there are no other cores
-  pub within : (j : ℕ) (a : Action) → IsAt order j a → core_of a < cores
+  pub within : (j : ℕ) (a : Action) → IsAt order j a → acting_core a < cores
 
 -- ---- all of it
 
 -- the actions of each core stand in the order of its program
 abbrev pub KeepsProgramOrder : List Action → Type 0
-KeepsProgramOrder order = AllPairs (λ (a b : Action). core_of a ≡ core_of b → PrecedesInProgram a b) order
+KeepsProgramOrder order = AllPairs (λ (a b : Action). acting_core a ≡ acting_core b → PrecedesInProgram a b) order
 
 -- an order of the actions of this many cores, on a memory that has these words first
 pub record IsSequentialOrder (cores : ℕ) (first : List ℕ) (actions order : List Action) : Type 0 where

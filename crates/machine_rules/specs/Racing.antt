@@ -1,7 +1,7 @@
 -- Data races, as the memory models of programming languages define them: accesses that conflict and aren't ordered by happens
 -- before (Lamport 1978, Adve and Hill 1990).
 use Rattle.std.specs.Prelude.{◌≡◌, ◌≢◌, ◌⊎◌, ℕ, ◌+◌, ◌<◌, List, [], ◌∷◌, None}
-use Rattle.machine_rules.specs.Actions.{Access, LockAction, BarrierAction, Action, accesses, acquires, releases, arrives, starts, core_of, phase_of}
+use Rattle.machine_rules.specs.Actions.{Access, LockAction, BarrierAction, Action, accesses, acquires, releases, arrives, starts, acting_core, acting_phase}
 use Rattle.machine_rules.specs.Consistent.{IsAt, IsSequentialOrder}
 
 -- two accesses conflict: they are of one word by different cores, and one of them is a store
@@ -23,7 +23,7 @@ pub record Orders (actions : List Action) (i j : ℕ) : Type 0 where
   pub second : Action
   pub at_first : IsAt actions i first
   pub at_second : IsAt actions j second
-  pub by : (core_of first ≡ core_of second) ⊎ SynchronizesWith first second
+  pub by : (acting_core first ≡ acting_core second) ⊎ SynchronizesWith first second
 
 -- one place happens before another: such steps lead from it to the other, through these places between them
 abbrev pub IsPath : List Action → ℕ → List ℕ → ℕ → Type 0
@@ -47,7 +47,7 @@ IsMutuallyExclusive actions =
 -- phases don't overlap: an action of a phase comes after each core's arrival in each phase before it
 abbrev pub ArePhasesApart : List Action → Type 0
 ArePhasesApart actions =
-    (i j : ℕ) (a : Action) (x : BarrierAction) → IsAt actions i (arrives x) → IsAt actions j a → x.phase < phase_of a → i < j
+    (i j : ℕ) (a : Action) (x : BarrierAction) → IsAt actions i (arrives x) → IsAt actions j a → x.phase < acting_phase a → i < j
 
 -- the actions of a run have no data race, and they stand in a sequential order
 pub record IsDataRaceFreeAndSequential (cores : ℕ) (first : List ℕ) (actions : List Action) : Type 0 where
