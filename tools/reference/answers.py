@@ -20,7 +20,7 @@ class Refused(Unfit):
 
 def options(words):
     """The values of the options. Of those that can be refused it knows the order of a run and the network alone."""
-    given = {"mode": "run", "seed": "1", "workers": "1", "banks": "4", "sets": "64", "ways": "4", "fuel": "32768", "size": "4",
+    given = {"mode": "run", "addresses": "off", "seed": "1", "workers": "1", "banks": "4", "sets": "64", "ways": "4", "fuel": "32768", "size": "4",
              "tick-core": "1", "tick-bank": "10", "tick-mail": "5", "order": "seed", "latency": "0", "net": "uniform"}
     words = [piece for word in words for piece in word.split("=")]
     while words:
@@ -28,7 +28,7 @@ def options(words):
             raise Unfit("words")
         given[words[0][2:]] = words[1]
         words = words[2:]
-    o = {name: value if name in ("mode", "order", "net") else int(value) for name, value in given.items()}
+    o = {name: value if name in ("mode", "addresses", "order", "net") else int(value) for name, value in given.items()}
     if o["order"] not in ("seed", "time") or o["net"] not in NETS or not 0 <= o["latency"] <= MOST_LATENCY:
         raise Refused()
     if o["order"] == "time" and o["workers"] != 1:
