@@ -21,7 +21,7 @@ use Rattle.rv_isa.specs.declared.instr.Instr.{Instr}
 use Rattle.rv_isa.specs.declared.instr.Instr.TheVariants.{Lui, Auipc, Jal, Jalr, Branch, Load, Store, OpImm, Op, Fence, Ecall, Ebreak}
 use Rattle.rv_listing.specs.Statement.{register, address, operands, more_operands, statement}
 use Rattle.rv_listing.specs.Instruction.{branch_word, load_word, store_word, immediate_word, operation_word, instruction_line, raw_line, line_by, code_line, addressed_line}
-use Rattle.rv_listing.specs.Listing.{text_of, version_lines, region_line, value_line, value_lines, region_values, lock_line, phase_lines, lines_with, code_lines, addressed_lines, listed_lines, listed_lines_with_addresses, listing_of, listing_with_addresses, listing_in}
+use Rattle.rv_listing.specs.Listing.{text_of, version_lines, region_line, value_line, value_lines, region_values, lock_line, phase_lines, lines_with, lines_of_code, addressed_lines, listed_lines, listed_lines_with_addresses, listing_of, listing_with_addresses, listing_in}
 use Rattle.run_report.specs.Answer.{outcome_word, outcome_line, end_text, task_line, words_line}
 use Rattle.run_report.specs.Grants.{grant_line}
 use Rattle.run_report.specs.Run.{event_word, counted_line}
@@ -217,16 +217,16 @@ phases-start regions locks (p ∷ ps) = of-three 46 112 104 (codes "ase") [] ref
 else-more : (bytes more : List ℕ) → BeginsElse bytes → BeginsElse (bytes ++ more)
 else-more bytes more h = record { a = h.a; b = h.b; c = h.c; rest = h.rest ++ more; is = ap (λ (bs : List ℕ). bs ++ more) h.is; other = h.other }
 
-code-start : (addresses : Bool) (code : List ℕ) → StartElse (code_lines addresses code)
+code-start : (addresses : Bool) (code : List ℕ) → StartElse (lines_of_code addresses code)
 unfolding code_line addressed_line
 code-start false [] = tt
 code-start true [] = tt
 code-start false (w ∷ ws) = word-else w (decoded w)
 code-start true (w ∷ ws) = else-more (line_by w (decoded w)) (codes "  # " ++ hexadecimal FIRST_CODE_ADDRESS) (word-else w (decoded w))
 
-lines-start : (addresses : Bool) (p : ProgramParts) → StartElse (lines_with (code_lines addresses p.code) p)
+lines-start : (addresses : Bool) (p : ProgramParts) → StartElse (lines_with (lines_of_code addresses p.code) p)
 lines-start addresses p =
-    let code = code_lines addresses p.code in
+    let code = lines_of_code addresses p.code in
     let phases = flat_map (phase_lines p.regions p.locks) p.phases in
     let locks = map lock_line p.locks in
     let values = flat_map (region_values p.memory) p.regions in
