@@ -1,6 +1,7 @@
 """Calls of the programs: their words, their exit codes, the stored runs, standard error, and which build of a program answers."""
 import os
 import pathlib
+import re
 import shutil
 import tempfile
 import time
@@ -73,6 +74,64 @@ def every_exit_code_comes():
         for mode in ("chart", "account", "lists", "traffic", "state", "answer", "page", "data"):
             ran = run(program + ["--mode", mode], b"no document\n")
             check(f"{program[0]} --mode {mode}: exit code 2", (ran.returncode, ran.stdout) == (2, b"refused trace head\n"))
+
+
+def empty_words_are_words():
+    """An empty argument is an argument, which no command takes; explain takes it as the name of a text that isn't there."""
+    for name in ("denovo", "view", "referee", "outcomes", "sweep"):
+        for program in programs(name):
+            for words in ([""], ["", ""], ["--mode", ""], ["--mode="], ["", "--seed", "3"], [str(number) for number in range(20)]):
+                ran = run(program + words)
+                check(f"{program[0]} {words}", (ran.returncode, ran.stdout) == (1, b"refused usage\n"), ran.returncode)
+    for program in programs("explain"):
+        for words, wanted in (([""], (6, b"")), (["examples/trap.s", ""], (1, b"refused usage\n")), (["", "examples/trap.s"], (1, b"refused usage\n"))):
+            ran = run(program + words)
+            check(f"{program[0]} {words}", (ran.returncode, ran.stdout) == wanted, ran.returncode)
+
+
+def there_is_memory_enough():
+    """Input of 17 MiB, for which the room grows otherwise than for less, and words that are refused: each has its answer, and isn't out of memory."""
+    zeros = bytes(17 << 20)
+    for name, words, told in (("denovo", [], "source too-large"), ("denovo", ["--mode", "replay"], "trace head"), ("view", [], "trace head"), ("referee", [], "claim head"),
+                              ("outcomes", [], "source too-large"), ("sweep", [], "source too-large"), ("explain", ["examples/trap.s"], "answer 1")):
+        for program in programs(name):
+            ran = run(program + words, zeros)
+            check(f"{program[0]} {' '.join(words)} of 17 MiB", (ran.returncode, ran.stdout) == (2, f"refused {told}\n".encode()), (ran.returncode, ran.stdout[:80]))
+    for words in (["--seeds", "3..1"], ["--seeds", "x"], ["--form", "other"], ["--seeds", "1..3", "--seeds", "1..3"], ["--fuel", "0"]):
+        for program in programs("sweep"):
+            ran = run(program + words, text_of("store-five"))
+            check(f"{program[0]} {' '.join(words)}", (ran.returncode, ran.stdout) == (1, b"refused usage\n"), ran.returncode)
+
+
+def workers_draw_by_the_seed():
+    """Of two workers, the first serves the cores of even numbers and a lone bank. Which message of several the bank takes is then drawn by this worker
+    alone: a seed gives the same events of these actors in each run, and another seed others. One worker draws otherwise."""
+    lines = [".region m, 64", ".phase"] + [line for core in (0, 2, 4, 6) for line in (f".task {core}, f, 0", ".reads m")]
+    lines += ["f: la t0, m"] + [f" lw t1, {4 * word}(t0)" for word in range(12)] + [" li a7, 0", " ecall"]
+    text = "".join(line + "\n" for line in lines).encode()
+
+    def drawn(program, seed, workers):
+        """The events of the even cores and the bank before the first of these cores arrives, in order."""
+        trace = run(program + ["--mode", "trace", "--banks", "1", "--workers", str(workers), "--seed", str(seed)], text).stdout.decode()
+        events = re.split(r"^a [0246]$", trace.rpartition("\nevents ")[2], flags=re.M)[0]
+        return re.findall(r"^(?:(?:i|e|h c) [0246]\b|h b).*$", events, re.M)
+
+    for program in programs("denovo"):
+        first = [drawn(program, seed, 2) for seed in range(1, 5)]
+        check(f"{program[0]}: seeds of two workers give other events", all(one != other for at, one in enumerate(first) for other in first[:at]) and all(first))
+        for seed, wanted in enumerate(first, 1):
+            check(f"{program[0]}: the draws of seed {seed} are the same in each run", all(drawn(program, seed, 2) == wanted for _ in range(4)))
+            check(f"{program[0]}: two workers draw otherwise than one, seed {seed}", drawn(program, seed, 1) != wanted)
+
+
+def input_without_end_is_left():
+    """A program stops to read just above its limit, and says that there is too much."""
+    for name, told in (("denovo", b"refused source too-large\n"), ("outcomes", b"refused source too-large\n"), ("sweep", b"refused source too-large\n")):
+        ran = run(["bash", "-c", 'ulimit -f 2200; yes | "$@"', "bash", f"./{name}"])
+        check(f"yes | ./{name}", ran.stdout == told, ran)
+        with open("/dev/zero", "rb") as zeros:
+            ran = run(["bash", "-c", 'ulimit -f 2200; "$@"', "bash", f"./{name}"], zeros)
+        check(f"./{name} < /dev/zero", ran.stdout == told, ran)
 
 
 def standard_error_helps():
