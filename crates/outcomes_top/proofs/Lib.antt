@@ -1,3 +1,4 @@
+pub mod BesideLemmas
 pub mod Commands
 pub mod LimitLemmas
 pub mod ListLemmas

@@ -1,4 +1,5 @@
 pub mod Answers
+pub mod Beside
 pub mod Command
 pub mod Effects
 pub mod Marks

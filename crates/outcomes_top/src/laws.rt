@@ -12,7 +12,9 @@ ghost use Rattle.machine_rules.specs.Runs.{IsCompleteRun, ending_of_run};
 ghost use Rattle.machine_rules.specs.Sound.{IsReady};
 ghost use Rattle.run_report.specs.Answer.{answer_of};
 ghost use Rattle.outcomes_top.specs.declared.status.OutcomesStatus.TheVariants.{Settled, Refused};
+ghost use Rattle.rv_core.specs.declared.ending.Ending.{Ending};
 ghost use Rattle.outcomes_top.specs.Answers.{OutcomesReply, IsOutcomesAnswer, HasPrinted, settled_reply};
+ghost use Rattle.outcomes_top.specs.Beside.{StandsInAnswer};
 
 /// If the program prints of a text what its runs have in common, then for every order of grants, that is every legal and maximal
 /// list, the reference machine's run has the outcome and the ends of tasks that are printed, and the value of each word that has
@@ -33,4 +35,10 @@ pub fn every_complete_run_has_what_is_printed()
 pub fn without_locks_the_answer_of_the_flat_machine_is_printed()
     ensures { (fuel : ℕ) (text : List ℕ) (out : OutcomesReply) (P : ProgramParts) (e : FlatEnd) → IsOutcomesAnswer fuel text out → out.status ≢ Refused → source text ≡ Ok P
         → length P.locks ≡ 0 → flat_end P fuel [] ≡ Some e → out ≡ settled_reply (answer_of e.ending) }
+{}
+
+/// Byte by byte: what is printed, and the answer of a run that has it, begin with the same lines, of the outcome, the ends of tasks
+/// and the number of words. Each printed line of a word is the answer's line of this word.
+pub fn what_is_printed_stands_in_the_answer()
+    ensures { (bytes : List ℕ) (e : Ending) → HasPrinted bytes e → StandsInAnswer bytes e }
 {}
