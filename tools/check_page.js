@@ -34,11 +34,13 @@ function checkPage({expected, marks}) {
     if (lists ? !say.endsWith(lists) : /With a list/.test(say)) fault('lists ' + how + ' ' + k);
   }
   function seeCounts(k, how) {
-    const [messages, misses, grants, listMessages, invalidations] = marks.counts[k];
-    const parts = [plural(messages, 'message'), plural(misses, 'miss')];
-    if (RUN.locks.length) parts.push(plural(grants, 'grant'));
-    const lists = listMessages === undefined ? '' : '; with a list ' + plural(listMessages, 'message') + ', ' + plural(invalidations, 'invalidation');
-    const wanted = ': ' + parts.join(', ') + (FIRST ? ' since event ' + FIRST : '') + lists;
+    const [ofPhase, ofRun] = marks.counts[k].map(([messages, misses, grants, listMessages, invalidations]) => {
+      const parts = [plural(messages, 'message'), plural(misses, 'miss')];
+      if (RUN.locks.length) parts.push(plural(grants, 'grant'));
+      return ': ' + parts.join(', ') +
+        (listMessages === undefined ? '' : '; with a list ' + plural(listMessages, 'message') + ', ' + plural(invalidations, 'invalidation'));
+    });
+    const wanted = ofPhase + '. ' + (FIRST ? 'Since event ' + FIRST : 'Run') + ofRun;
     if (!text('tally').endsWith(wanted)) fault('counts ' + how + ' ' + k + ': ' + text('tally') + ' isn’t ' + wanted);
   }
   function see(k, how) {

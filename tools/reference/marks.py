@@ -4,7 +4,7 @@ It marks stale copies, says when they go and what a list of sharers would have d
 
 from .documents import read_document
 from .kinds import KINDS
-from .lists import Lists
+from .lists import SERVED, Lists
 from .machine import Machine
 from .pages import event_row
 from .texts import assemble
@@ -60,8 +60,12 @@ class Marks:
         self.lists = Lists(self.machine.cores, self.machine.sets, self.machine.ways)
         # by the number of the event of a store, its stale copies: core, value; and what each of the copies ended with
         self.stale, self.ends, self.texts, self.at = {}, [], {}, 0
-        # how many messages, misses and grants there were, and with lists messages and invalidations; each event's row and its words
-        self.counts, self.rows, self.words = [0, 0, 0, 0, 0], [], []
+        # how many messages, misses and grants there were, and with lists messages and invalidations, by the event at which their access
+        # begins; each event's row and its words
+        self.counts, self.rows, self.words = [], [], []
+        # by message the access that it belongs to, as a list of one event; those of evictions that wait for their core's access; and where
+        # each core asked last
+        self.access, self.evicting, self.asked = {}, {}, {}
 
     def name(self, word):
         region, (first, _) = next((name, place) for name, place in self.program.regions.items() if place[0] <= word < sum(place))
@@ -72,12 +76,11 @@ class Marks:
         waits = [node.wait is not None and node.wait[0] == "filled" for node in self.machine.nodes]
         was = copies(self.machine)
         mail = next((mail for mail in self.machine.pool if mail[:2] == event[1:]), None) if event[0] == "handle" else None
+        flying = {mail[:2] for mail in self.machine.pool}
         row = event_row(self.machine, event)
         self.rows.append(row)
         self.words.append(words_of(row, mail))
-        asks = any(sent[1] == KINDS.index("read-req") for sent in sent_of(row))
-        for place, more in enumerate((row[0] in WORD_MAILS, row[0] == KINDS.index("instr") and asks, row[0] == KINDS.index("grant"))):
-            self.counts[place] += more
+        self.count(event, row, [mail[:2] for mail in self.machine.pool if mail[:2] not in flying and mail[3][0] in SERVED])
         now = copies(self.machine)
         self.ends += [(self.at, key) for key in was if key not in now]
         for tag, word, value in [change[:3] for change in row[3] if change[0] in ("ld", "st")]:
@@ -89,13 +92,44 @@ class Marks:
             self.texts[self.at] = self.lists_text(row[1], word, tag == "st", waits[row[1]])
         self.at += 1
 
+    def count(self, event, row, sent):
+        """Counts what an event begins. Its messages belong to the access of the message that it handles, or to its own; an eviction's to its
+        core's next load or store."""
+        is_instr = row[0] == KINDS.index("instr")
+        asks = is_instr and any(other[1] == KINDS.index("read-req") for other in sent_of(row))
+        self.counts.append([0, int(asks), int(row[0] == KINDS.index("grant")), 0, 0])
+        if is_instr and (asks or any(change[0] in ("ld", "st") for change in row[3])):
+            for access in self.evicting.pop(row[1], []):
+                access[0] = self.at
+        if asks:
+            self.asked[row[1]] = self.at
+        access = self.access[event[1:]] if event[1:] in self.access and row[0] in WORD_MAILS else [self.at]
+        if row[0] == KINDS.index("evict"):
+            self.evicting.setdefault(row[1], []).append(access)
+        for mail in sent:
+            self.access[mail] = access
+
+    def counted(self, first, end):
+        """For each state of a page from one event to another the counts since its phase began, and since the page's first event."""
+        counts, start, sums, made = [list(count) for count in self.counts[:end]], first, [[0] * 5], []
+        for at, in self.access.values():
+            counts[at][0] += 1
+        for count in counts:
+            sums.append([before + more for before, more in zip(sums[-1], count)])
+        for now in range(first, end + 1):
+            if now > first and self.rows[now - 1][0] == KINDS.index("arrived") and sent_of(self.rows[now - 1]):
+                start = now
+            made.append([[all_of - before for all_of, before in zip(sums[now], sums[since])] for since in (start, first)])
+        return made
+
     def lists_text(self, core, word, is_store, waited):
         """What an access would do with lists, by the messages that it sends there."""
         before = self.lists.others(core, word)
         sent, waits = self.lists.access(core, word, is_store)
         kinds = [kind for kind, _ in sent]
-        self.counts[3] += len(sent)
-        self.counts[4] += kinds.count("invalidations")
+        begun = self.counts[self.asked[core] if waited else self.at]
+        begun[3] += len(sent)
+        begun[4] += kinds.count("invalidations")
         if not waits:
             if waited:
                 return "With a list: no message and no wait. The core would still have the word, and here it had to ask again."
@@ -129,25 +163,24 @@ class Marks:
 
 
 def marks(data, first, most):
-    """For each state of a page its stale copies, as pairs of a core and a word, and the counts since the page's first event; for each event
-    what it says of copies and of lists; and the events to which the page's buttons lead."""
+    """For each state of a page its stale copies, as pairs of a core and a word, and the counts since its phase began and since the page's
+    first event; for each event what it says of copies and of lists; and the events to which the page's buttons lead."""
     sizes, text, events = read_document(data)
     kept, end = Marks(assemble(text.decode("utf-8", "replace")), sizes), min(len(events), first + most)
-    states, counts = [], []
+    states = []
 
     def note():
         states.append([list(key) for key in sorted(stale_copies(kept.machine, kept.values))])
-        counts.append(list(kept.counts))
     for event in events[:end]:
         note()
         kept.step(event)
     note()
     said = [{"stale": kept.stale_text(at, end, end == len(events)) if at in kept.stale else "",
              "lists": kept.texts.get(at, "") if first == 0 else ""} for at in range(first, end)]
-    counts = [[now - before for now, before in zip(one, counts[first])] for one in counts[first:]]
+    counts = [[one if first == 0 else one[:3] for one in both] for both in kept.counted(first, end)]
     rows = [(at, kept.rows[at]) for at in range(first, end)]
     words = {kept.name(word): [at for at, _ in rows if word in kept.words[at]] for word in sorted(set().union(*kept.words[first:end]))[:6]}
-    return {"states": states[first:], "counts": counts if first == 0 else [one[:3] for one in counts], "said": said, "words": words,
+    return {"states": states[first:], "counts": counts, "said": said, "words": words,
             "plain": [at for at, row in rows if is_plain(row)],
             "messages": [at for at, row in rows if row[2] != -1 or sent_of(row)],
             "phases": [at for at, row in rows if row[0] == KINDS.index("arrived") and sent_of(row)],
