@@ -151,10 +151,13 @@ def answers_of_other_texts_are_refused():
     """The first line of a listing, or of a document, that isn't this text's is named; also where it is missing."""
     text = ".region m, 2\n.phase\n.task 0, go, 0\ngo: li a7, 0\necall\n"
     listing = ".region m, 2\n.phase\n.task 0, 0x00001000, 0x00000000\nlui x17, 0\naddi x17, x17, 0\necall\n"
+    addressed = listing[:-34] + "lui x17, 0  # 0x00001000\naddi x17, x17, 0  # 0x00001004\necall  # 0x00001008\n"
     head = f"denovo-trace 1\nbanks 4 sets 64 ways 4 fuel 32768\nsource {len(text)}\n{text}\nevents 2\n"
     cases = [
         (listing.replace("region m, 2", "region m, 3"), 1), (listing.replace("x17, 0\necall", "x17, 1\necall"), 5),
         (listing + "ecall\n", 7), (listing[:-6], 6), (listing[:-1], 6),
+        (addressed.replace("lui x17, 0", "lui x17, 1"), 4), (addressed.replace("0x00001004", "0x00001000"), 5), (addressed[:-1], 6),
+        (addressed.replace("  # 0x00001000", ""), 5),
         (head.replace("banks 4", "banks 0") + "i 0\na 0\n", 2), (head.replace("task 0", "task 1") + "i 0\na 0\n", 6),
         (head.replace(f"source {len(text)}", "source 9") + "i 0\na 0\n", 3), (head.replace("\nevents 2\n", "\nevents 02\n"), 10),
         (head + "i 0\n", 12), (head + "i 16\na 0\n", 11), (head + "i 0\na 0\nh k 0\n", 13), ("denovo-trace 2\n", 1)]
@@ -164,6 +167,9 @@ def answers_of_other_texts_are_refused():
         for number, (answer, line) in enumerate(cases):
             ran = run(programs("explain")[0] + [str(file)], answer.encode())
             check(f"other text {number}, refused at line {line}", (ran.returncode, ran.stdout) == (2, b"refused answer %d\n" % line), ran.stdout)
+        ran = run(programs("explain")[0] + [str(file)], addressed.encode())
+        wanted = addressed.replace("00\naddi", "00\n  4 | go: li a7, 0\naddi").replace("04\n", "04\n  second word of line 4 | go: li a7, 0\n").replace("08\n", "08\n  5 | ecall\n")
+        check("a listing with addresses is taken", (ran.returncode, ran.stdout.decode()) == (0, wanted), ran.stdout)
         for answer in (head + "i 0\na 0\n", "refused usage\n"):
             ran = run(programs("explain")[0] + [str(file)], answer.encode())
             check("such an answer is taken", (ran.returncode, ran.stdout) == (0, answer.encode()), ran.stdout)

@@ -18,7 +18,8 @@ def row_of(seed, lines):
 
 
 def outputs_are_those_of_the_reference():
-    for example, form, words in ((example, form, words) for example, words in RUNS for form in ([], ["--form", "answers"], ["--form", "csv"])):
+    for example, form, words in ((example, form, words) for example, words in RUNS
+                                 for form in ([], ["--form", "answers"], ["--form", "answers", "--retired=off"], ["--retired", "off"], ["--form", "csv"])):
         words = ["--seeds", f"1..{SEEDS}", *form, *words]
         status, lines = reference.sweep(words, text_of(example).decode())
         for program in programs("sweep"):
@@ -79,6 +80,6 @@ def texts_and_words_are_refused():
     for seeds, count in (("7..7", 1), ("+1..2", 2), ("4294967295..4294967295", 1), ("0..0", 1)):
         ran = run(sweep + ["--form=csv", "--seeds", seeds], text_of("trap"))
         check(f"sweep takes the seeds {seeds}", (ran.returncode, ran.stdout.count(b"\n")) == (0, count + 1), ran.stdout[:80])
-    for words in (["--form", "text"], ["--banks", "17"], ["--sets", "257"], ["--ways", "0"], ["--fuel", "32769"], ["--seed", "1"], ["--workers", "1"]):
+    for words in (["--form", "text"], ["--banks", "17"], ["--sets", "257"], ["--ways", "0"], ["--fuel", "32769"], ["--retired", "no"], ["--seed", "1"], ["--workers", "1"]):
         ran = run(sweep + words, text_of("trap"))
         check(f"sweep refuses {' '.join(words)}", (ran.returncode, ran.stdout) == (1, b"refused usage\n"), ran.stdout[:80])

@@ -12,7 +12,7 @@ from .work import work_text
 
 
 def options(words):
-    given = {"mode": "run", "seed": "1", "workers": "1", "banks": "4", "sets": "64", "ways": "4", "fuel": "32768", "size": "4",
+    given = {"mode": "run", "addresses": "off", "seed": "1", "workers": "1", "banks": "4", "sets": "64", "ways": "4", "fuel": "32768", "size": "4",
              "tick-core": "1", "tick-bank": "10", "tick-mail": "5"}
     words = [piece for word in words for piece in word.split("=")]
     while words:
@@ -20,7 +20,7 @@ def options(words):
             raise Unfit("words")
         given[words[0][2:]] = words[1]
         words = words[2:]
-    return {name: value if name == "mode" else int(value) for name, value in given.items()}
+    return {name: value if name in ("mode", "addresses") else int(value) for name, value in given.items()}
 
 
 def opened(program, o):

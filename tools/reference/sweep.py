@@ -18,19 +18,19 @@ def checksum(lines):
 
 def asked(words):
     """What the words ask for."""
-    given = {"seeds": "1..1000", "form": "summary", "banks": "4", "sets": "64", "ways": "4", "fuel": "32768"}
+    given = {"seeds": "1..1000", "form": "summary", "retired": "on", "banks": "4", "sets": "64", "ways": "4", "fuel": "32768"}
     words = [piece for word in words for piece in word.split("=")]
     while words:
         if words[0][2:] not in given or len(words) < 2:
             raise Unfit("words")
         given[words[0][2:]] = words[1]
         words = words[2:]
-    if given["form"] not in FORMS:
+    if given["form"] not in FORMS or given["retired"] not in ("on", "off"):
         raise Unfit("form")
     first, last = (int(seed) for seed in given["seeds"].split(".."))
     if not first <= last < first + MOST_SEEDS:
         raise Unfit("seeds")
-    return range(first, last + 1), given["form"], {name: int(given[name]) for name in ("banks", "sets", "ways", "fuel")}
+    return range(first, last + 1), given["form"], given["retired"] == "on", {name: int(given[name]) for name in ("banks", "sets", "ways", "fuel")}
 
 
 def numbers(machine):
@@ -44,16 +44,21 @@ def row(seed, machine):
     return ",".join(map(str, cells))
 
 
-def table(runs):
+def compared(machine, retired):
+    """The lines by which answers are compared: all, or without the counts of retired instructions."""
+    return [line if retired else line.partition(" retired ")[0] for line in answer_text(machine.ending())]
+
+
+def table(runs, retired):
     """A row for each seed."""
     return [",".join(["seed", "outcome", "retired", "events", *KINDS, "answer", "grants"])] + [row(seed, machine) for seed, machine in runs]
 
 
-def answers(runs):
+def answers(runs, retired):
     """A row for each different answer, in the order of the least seeds."""
     counted = {}
     for seed, machine in runs:
-        counted.setdefault(tuple(answer_text(machine.ending())), []).append((seed, machine))
+        counted.setdefault(tuple(compared(machine, retired)), []).append((seed, machine))
     lines = ["seed,runs,outcome,retired,answer"]
     for text, having in counted.items():
         seed, machine = having[0]
@@ -61,10 +66,10 @@ def answers(runs):
     return lines
 
 
-def summary(runs):
+def summary(runs, retired):
     """What the runs have in all."""
     outcomes = [outcome(machine.ending()[0]) for seed, machine in runs]
-    different = [len({tuple(answer_text(machine.ending())) for seed, machine in runs}), len({checksum(grant_text(machine.grants)) for seed, machine in runs})]
+    different = [len({tuple(compared(machine, retired)) for seed, machine in runs}), len({checksum(grant_text(machine.grants)) for seed, machine in runs})]
     columns = list(zip(*(numbers(machine) for seed, machine in runs), strict=True))
     spreads = ["least %d most %d" % (min(column), max(column)) for column in columns]
     return (["runs %d" % len(runs)] + ["outcome %s %d" % (name, outcomes.count(name)) for name in ("done", "trapped", "fuel", "stuck")]
@@ -78,7 +83,7 @@ FORMS = {"summary": summary, "answers": answers, "csv": table}
 
 def sweep(words, text):
     """The exit code and the lines of the program, for a text that assembles and checks."""
-    seeds, form, o = asked(words)
+    seeds, form, retired, o = asked(words)
     program = assemble(text)
     runs = []
     for seed in seeds:
@@ -86,4 +91,4 @@ def sweep(words, text):
         machine.run(seed, lambda event: None)
         agree_with_flat(machine)
         runs.append((seed, machine))
-    return 0, FORMS[form](runs)
+    return 0, FORMS[form](runs, retired)

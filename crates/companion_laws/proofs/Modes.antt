@@ -114,10 +114,10 @@ module _ (once : IsRefusedOnce) where
         printed-taken text has.program has.is has.checked _ out.bytes (out-bytes out _ has.holds.answer)
         (proved-printed text (located text has.program) (is-located text has.program has.is) has.holds.proved has.holds.right) e h
 
-    list-taken : HasProgram text (λ P. IsListing P out) → IsTaken e
+    list-taken : HasProgram text (λ P. IsListing P o.addresses out) → IsTaken e
     list-taken has =
         is-taken e _
-        (listing-taken text out.bytes (located text has.program) (is-located text has.program has.is) (out-bytes out _ has.holds.answer) e h)
+        (listing-taken text out.bytes (located text has.program) (is-located text has.program has.is) (o.addresses, out-bytes out _ has.holds.answer) e h)
 
     trace-taken : HasChecked text (λ P. IsTracedRun P o text out) → IsTaken e
     trace-taken has =

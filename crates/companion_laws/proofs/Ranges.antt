@@ -7,7 +7,7 @@ use Rattle.clap.specs.Kinds.{Kinds}
 use Rattle.clap.specs.Walk.{Row, Text, one_of}
 use Rattle.dn_top.specs.declared.options.Options.{Options}
 use Rattle.program_outside.specs.Numbers.{if_within, number_in_text}
-use Rattle.program_outside.specs.Words.{faults_in, number_in, values_in, where_taken}
+use Rattle.program_outside.specs.Words.{faults_in, number_in, switch_in, values_in, where_taken}
 use Rattle.dn_top.specs.Command.{command, mode_in, options_from, options_of, OptionsInRange}
 
 within-range : (low high number n : ℕ) → if_within low high number ≡ Some n → IsInRange low high n
@@ -24,7 +24,8 @@ from-range : (rows : List Row) (o : Options) → options_from rows ≡ Some o �
 unfolding options_from
 from-range rows o e =
     option_and_then_some _ (mode_in rows) o e (λ mode _ e1.
-    option_and_then_some _ (number_in rows (codes "seed") 0 4294967295) o e1 (λ seed _ e2.
+    option_and_then_some _ (switch_in rows (codes "addresses")) o e1 (λ addresses _ e1'.
+    option_and_then_some _ (number_in rows (codes "seed") 0 4294967295) o e1' (λ seed _ e2.
     option_and_then_some _ (number_in rows (codes "workers") 1 16) o e2 (λ workers h3 e3.
     option_and_then_some _ (number_in rows (codes "banks") 1 16) o e3 (λ banks h4 e4.
     option_and_then_some _ (number_in rows (codes "sets") 1 256) o e4 (λ sets h5 e5.
@@ -37,6 +38,7 @@ from-range rows o e =
     let asked : Options =
     record {
       mode = mode;
+      addresses = addresses;
       seed = seed;
       workers = workers;
       banks = banks;
@@ -59,7 +61,7 @@ from-range rows o e =
       tick_core = number-range rows (codes "tick-core") 1 1000000 tick_core h9;
       tick_bank = number-range rows (codes "tick-bank") 1 1000000 tick_bank h10;
       tick_mail = number-range rows (codes "tick-mail") 1 1000000 tick_mail h11;
-    }))))))))))))
+    })))))))))))))
 
 pub words-range : (words : List Text) (o : Options) → options_of words ≡ Some o → OptionsInRange o
 unfolding options_of

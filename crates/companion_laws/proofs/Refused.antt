@@ -43,6 +43,7 @@ abbrev checking : Options
 checking =
     record {
       mode = mode.TheVariants.Check;
+      addresses = false;
       seed = 0;
       workers = 1;
       banks = 1;

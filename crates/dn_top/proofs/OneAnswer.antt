@@ -58,7 +58,8 @@ done-one mode.TheVariants.Work o text out other decided is also =
     checked-one text (λ P x. IsPrintedRun P o summed_up x) out other (λ P. one-output P o summed_up out other (by-one mode.TheVariants.Work o decided refl)) is also
 done-one mode.TheVariants.Check o text out other decided is also =
     checked-one text (λ P x. x ≡ answered status.TheVariants.Done (checked_of P)) out other (λ P a b. a ∙ sym b) is also
-done-one mode.TheVariants.List o text out other decided is also = program-one text IsListing out other (λ P a b. a.answer ∙ sym b.answer) is also
+done-one mode.TheVariants.List o text out other decided is also =
+    program-one text (λ P x. IsListing P o.addresses x) out other (λ P a b. a.answer ∙ sym b.answer) is also
 done-one mode.TheVariants.Flat o text out other decided is also = checked-one text (λ P x. IsFlatRun P o.fuel x) out other (λ P. flat_run-one P o.fuel out other) is also
 done-one mode.TheVariants.Trace o text out other decided is also =
     checked-one text (λ P x. IsTracedRun P o text x) out other (λ P. traced-one P o text out other (by-one mode.TheVariants.Trace o decided refl)) is also

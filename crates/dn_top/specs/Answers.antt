@@ -8,7 +8,7 @@ use Rattle.dn_base.specs.Status.{status_of}
 use Rattle.region_table.specs.Program.{ProgramParts}
 use Rattle.rv_assembler.specs.Source.{source}
 use Rattle.rv_listing.specs.Law.{FitsSourceLimits}
-use Rattle.rv_listing.specs.Listing.{listed_lines, listing_of}
+use Rattle.rv_listing.specs.Listing.{listed_lines, listing_in, listing_of}
 use Rattle.effect_prover.specs.declared.proved.Proved.{Proved}
 use Rattle.effect_prover.specs.declared.proved.Proved.TheVariants.{Inside}
 use Rattle.effect_prover.specs.Answer.{IsProversAnswer, RunsInside, proved_text}
@@ -48,10 +48,11 @@ pub record IsFlatRun (program : ProgramParts) (fuel : ℕ) (out : Output) : Type
   pub caused : IsCaused program fuel grants end.ending
   pub answer : out ≡ answered (status_of end.ending.outcome) (answer_of end.ending ++ grant_lines grants)
 
--- the program's listing; if it is within the limits of a text, it is a text of exactly this program
-pub record IsListing (program : ProgramParts) (out : Output) : Type 0 where
-  pub answer : out ≡ answered status.TheVariants.Done (listing_of program)
-  pub again : FitsSourceLimits (listed_lines program) → source (listing_of program) ≡ Ok program
+-- the program's listing, with addresses or without; without them, if it is within the limits of a text, it is a text of exactly this
+-- program
+pub record IsListing (program : ProgramParts) (addresses : Bool) (out : Output) : Type 0 where
+  pub answer : out ≡ answered status.TheVariants.Done (listing_in addresses program)
+  pub again : addresses ≡ false → FitsSourceLimits (listed_lines program) → source (listing_of program) ≡ Ok program
 
 -- what the prover says of the program's effects; if it says that they are kept, no run ends a task by the trap `outside`
 pub record IsProof (program : ProgramParts) (out : Output) : Type 0 where
@@ -79,7 +80,7 @@ abbrev pub done_in : Mode → Options → List ℕ → Output → Type 0
 done_in mode.TheVariants.Run o text out = HasChecked text (λ P. IsPrintedRun P o reported out)
 done_in mode.TheVariants.Work o text out = HasChecked text (λ P. IsPrintedRun P o summed_up out)
 done_in mode.TheVariants.Check o text out = HasChecked text (λ P. out ≡ answered status.TheVariants.Done (checked_of P))
-done_in mode.TheVariants.List o text out = HasProgram text (λ P. IsListing P out)
+done_in mode.TheVariants.List o text out = HasProgram text (λ P. IsListing P o.addresses out)
 done_in mode.TheVariants.Flat o text out = HasChecked text (λ P. IsFlatRun P o.fuel out)
 done_in mode.TheVariants.Trace o text out = HasChecked text (λ P. IsTracedRun P o text out)
 done_in mode.TheVariants.Replay o text out = IsReplayed text out

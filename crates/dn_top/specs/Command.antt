@@ -1,18 +1,19 @@
 -- The command `denovo`: its options, which command words it takes, and what they ask for.
-use Rattle.std.specs.Prelude.{ℕ, List, codes, bytes_eq, Option, Some, None, option_and_then, if◌then◌else◌}
+use Rattle.std.specs.Prelude.{ℕ, Bool, List, codes, bytes_eq, Option, Some, None, option_and_then, if◌then◌else◌}
 use Rattle.std.specs.Int.{IsInRange}
 use Rattle.clap.specs.Walk.{Row, Text, first_of}
 use Rattle.clap.specs.Simple.{App, new_app, with_rule}
 use Rattle.dn_top.specs.declared.options.Mode.{Mode}
 use Rattle.dn_top.specs.declared.options.Mode as mode
 use Rattle.dn_top.specs.declared.options.Options.{Options}
-use Rattle.program_outside.specs.Words.{bare, faults_in, number_in, number_rule, text_rule, values_in, where_taken}
+use Rattle.program_outside.specs.Words.{bare, faults_in, number_in, number_rule, switch_in, text_rule, values_in, where_taken}
 
--- the command `denovo` with its eleven options
+-- the command `denovo` with its twelve options
 unfoldable pub command : App
 command =
-    with_rule (with_rule (with_rule (with_rule (with_rule (with_rule (with_rule (with_rule (with_rule (with_rule (with_rule (bare (new_app (codes "denovo")))
+    with_rule (with_rule (with_rule (with_rule (with_rule (with_rule (with_rule (with_rule (with_rule (with_rule (with_rule (with_rule (bare (new_app (codes "denovo")))
     (text_rule (codes "mode") (codes "run")))
+    (text_rule (codes "addresses") (codes "off")))
     (number_rule (codes "seed") (codes "1")))
     (number_rule (codes "workers") (codes "1")))
     (number_rule (codes "banks") (codes "4")))
@@ -46,6 +47,7 @@ mode_in rows = option_and_then mode_named (first_of (codes "mode") rows)
 unfoldable pub options_from : List Row → Option Options
 options_from rows =
     option_and_then (λ (mode : Mode).
+    option_and_then (λ (addresses : Bool).
     option_and_then (λ (seed : ℕ).
     option_and_then (λ (workers : ℕ).
     option_and_then (λ (banks : ℕ).
@@ -56,7 +58,7 @@ options_from rows =
     option_and_then (λ (tick_core : ℕ).
     option_and_then (λ (tick_bank : ℕ).
     option_and_then (λ (tick_mail : ℕ).
-    Some (record { mode = mode; seed = seed; workers = workers; banks = banks; sets = sets; ways = ways; fuel = fuel; size = size; tick_core = tick_core; tick_bank = tick_bank; tick_mail = tick_mail }))
+    Some (record { mode = mode; addresses = addresses; seed = seed; workers = workers; banks = banks; sets = sets; ways = ways; fuel = fuel; size = size; tick_core = tick_core; tick_bank = tick_bank; tick_mail = tick_mail }))
     (number_in rows (codes "tick-mail") 1 1000000))
     (number_in rows (codes "tick-bank") 1 1000000))
     (number_in rows (codes "tick-core") 1 1000000))
@@ -67,6 +69,7 @@ options_from rows =
     (number_in rows (codes "banks") 1 16))
     (number_in rows (codes "workers") 1 16))
     (number_in rows (codes "seed") 0 4294967295))
+    (switch_in rows (codes "addresses")))
     (mode_in rows)
 
 -- the options that these words ask for, if the command takes the words

@@ -1,4 +1,4 @@
-ghost use Rattle.std.specs.Prelude.{◌≡◌, ◌≢◌, ◌≤◌, ◌++◌, length, IfOk, IfErr};
+ghost use Rattle.std.specs.Prelude.{◌≡◌, ◌≢◌, ◌≤◌, ◌++◌, true, false, length, IfOk, IfErr};
 ghost use Rattle.region_table.specs.Program.{names_of};
 ghost use Rattle.rv_assembler.specs.Names.{AreDeclaredNames};
 ghost use Rattle.run_report.specs.Answer.{answer_of};
@@ -23,7 +23,7 @@ use effect_prover::{prove, prove_text};
 use flat_machine::{LeastRun, least_run};
 use region_table::Program;
 use run_report::{Stop, answer_text, checked_line, checked_of, grant_text, program_of};
-use rv_listing::listing;
+use rv_listing::{listing, listing_with_addresses};
 use std::alloc::Global;
 use std::sync::Wait;
 use std::thread::Threads;
@@ -59,11 +59,30 @@ fn count(alloc: Global, program: &Program) -> Result<Output, Memory>
 }
 
 /// Lists a program.
-fn list(alloc: Global, program: &Program) -> Result<Output, Memory>
+fn list_plain(alloc: Global, program: &Program) -> Result<Output, Memory>
     requires { AreDeclaredNames (names_of program.now) }
-    ensures { IfOk result (IsListing program.now) }
+    ensures { IfOk result (IsListing program.now false) }
 {
     Ok(output_of(Outcome::Done, listing(alloc, program)?))
+}
+
+/// Lists a program with the address of each code word.
+fn list_with_addresses(alloc: Global, program: &Program) -> Result<Output, Memory>
+    ensures { IfOk result (IsListing program.now true) }
+{
+    Ok(output_of(Outcome::Done, listing_with_addresses(alloc, program)?))
+}
+
+/// Lists a program, with addresses or without.
+fn list(alloc: Global, program: &Program, addresses: bool) -> Result<Output, Memory>
+    requires { AreDeclaredNames (names_of program.now) }
+    ensures { IfOk result (IsListing program.now addresses) }
+{
+    if addresses {
+        list_with_addresses(alloc, program)
+    } else {
+        list_plain(alloc, program)
+    }
 }
 
 /// Says whether some run of the program may access a word outside its declared effects.
@@ -87,12 +106,12 @@ fn count_text(alloc: Global, text: &[u8]) -> Result<Output, Stop>
 }
 
 /// Lists the program of a text.
-fn list_text(alloc: Global, text: &[u8]) -> Result<Output, Stop>
-    ensures done { IfOk result (λ out. HasProgram text.now (λ P. IsListing P out)) }
+fn list_text(alloc: Global, addresses: bool, text: &[u8]) -> Result<Output, Stop>
+    ensures done { IfOk result (λ out. HasProgram text.now (λ P. IsListing P addresses out)) }
     ensures stop { IfErr result (IsStop (IsNoProgram text.now)) }
 {
     let program = program_of(alloc, text)?;
-    let listed = list(alloc, &program);
+    let listed = list(alloc, &program, addresses);
     // for the prover alone, as in `count_text`
     drop(program);
     Ok(listed?)
@@ -164,7 +183,7 @@ fn done_alone(alloc: Global, options: &Options, text: &[u8]) -> Result<Output, S
         Mode::Run => report_alone(alloc, options, text),
         Mode::Work => sum_up_alone(alloc, options, text),
         Mode::Check => count_text(alloc, text),
-        Mode::List => list_text(alloc, text),
+        Mode::List => list_text(alloc, options.addresses, text),
         Mode::Flat => run_flat_text(alloc, options.fuel, text),
         Mode::Trace => trace_alone(alloc, options, text),
         Mode::Replay => replay_document(alloc, text),

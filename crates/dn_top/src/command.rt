@@ -7,8 +7,9 @@ use program_outside::{OptionValue, bare_command, with_options};
 use std::alloc::{AllocError, Global};
 
 /// The options of the command, with their defaults.
-const OPTIONS: [(&str, OptionValue<'_>); 11] = [
+const OPTIONS: [(&str, OptionValue<'_>); 12] = [
     ("mode", OptionValue::Text("run")),
+    ("addresses", OptionValue::Text("off")),
     ("seed", OptionValue::Number("1")),
     ("workers", OptionValue::Number("1")),
     ("banks", OptionValue::Number("4")),
@@ -21,7 +22,7 @@ const OPTIONS: [(&str, OptionValue<'_>); 11] = [
     ("tick-mail", OptionValue::Number("5")),
 ];
 
-/// The command with its eleven options.
+/// The command with its twelve options.
 #[tactic(auto, unfolding(crate::specs::Command::command))]
 pub(crate) fn denovo<'a>(alloc: Global) -> Result<Command<'a>, AllocError>
     ensures { IfOk result (λ made. app_of made ≡ command) }

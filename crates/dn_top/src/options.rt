@@ -25,6 +25,8 @@ pub enum Mode {
 #[derive(Clone, Copy)]
 pub struct Options {
     pub mode: Mode,
+    /// Whether a listing has the address of each code word.
+    pub addresses: bool,
     /// The seed of the generators that pick events. With more than one worker it doesn't fix the order of events.
     pub seed: u32,
     /// Host threads, from 1 to 16.

@@ -1,12 +1,12 @@
-ghost use Rattle.std.specs.Prelude.{◌≡◌, IfOk, IfErr, map, string_bytes, Some, None, option_map};
-ghost use Rattle.clap.specs.Words.{rows_of, found_of, first_of};
+ghost use Rattle.std.specs.Prelude.{◌≡◌, IfOk, IfErr, map, string_bytes, Some, None};
+ghost use Rattle.clap.specs.Words.{rows_of, found_of};
 ghost use Rattle.dn_top.specs.Command.{mode_named, mode_in, options_from, options_of, OptionsInRange};
 ghost use Rattle.program_outside.specs.declared.words.WordsFault.TheVariants.{Usage};
 
 use crate::command::denovo;
 use crate::options::{Mode, Options};
 use clap::ArgMatches;
-use program_outside::{WordsFault, matches_by, number};
+use program_outside::{WordsFault, matches_by, number, switch, text_of};
 use std::alloc::Global;
 
 /// The mode with this name.
@@ -27,13 +27,6 @@ fn mode_named(text: &str) -> Option<Mode>
     }
 }
 
-/// The text of an option.
-fn text_of<'a>(matches: &ArgMatches<'a>, name: &str) -> Option<&'a str>
-    ensures { option_map (λ s. s.now) result ≡ first_of name.now (rows_of (found_of matches.now)) }
-{
-    matches.get_str(name)
-}
-
 /// The mode that the words ask for.
 fn mode(matches: &ArgMatches<'_>) -> Option<Mode>
     ensures { result ≡ mode_in (rows_of (found_of matches.now)) }
@@ -52,6 +45,7 @@ fn options(matches: &ArgMatches<'_>) -> Option<Options>
 {
     Some(Options {
         mode: mode(matches)?,
+        addresses: switch(matches, "addresses")?,
         seed: number(matches, "seed", 0, 4_294_967_295)?,
         workers: number(matches, "workers", 1, 16)?,
         banks: number(matches, "banks", 1, 16)?,
@@ -67,9 +61,9 @@ fn options(matches: &ArgMatches<'_>) -> Option<Options>
 
 /// What the arguments ask for. The program's own name isn't among them.
 ///
-/// The options are `--mode`, `--seed`, `--workers`, `--banks`, `--sets`, `--ways`, `--fuel`, `--size`, `--tick-core`,
+/// The options are `--mode`, `--addresses`, `--seed`, `--workers`, `--banks`, `--sets`, `--ways`, `--fuel`, `--size`, `--tick-core`,
 /// `--tick-bank` and `--tick-mail`. Each has one value, whose range stands in `Options`, and may be given once at most, as
-/// `--seed 7` or `--seed=7`. The defaults are run, 1, 1, 4, 64, 4, 32768, 4, 1, 10 and 5. No other words are taken.
+/// `--seed 7` or `--seed=7`. The defaults are run, off, 1, 1, 4, 64, 4, 32768, 4, 1, 10 and 5. No other words are taken.
 ///
 /// # Errors
 /// `Usage` if the command doesn't take the words, `Memory` if there is no room to read them.

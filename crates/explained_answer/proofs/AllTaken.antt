@@ -1,10 +1,10 @@
 -- An answer whose lines are all lines of answers of the program is explained as these lines.
-use Rattle.std.proofs.Common.{◌≡◌, inl, inr, ℕ, ◌<◌, true, false, List, [], ◌∷◌, ◌++◌, length, flat_map, codes, None, All, refl, sym, ap, subst, ◌∙◌, arith, length-append, append_assoc}
+use Rattle.std.proofs.Common.{◌≡◌, inl, inr, ℕ, ◌<◌, max, true, false, List, [], ◌∷◌, ◌++◌, length, flat_map, codes, None, All, refl, sym, ap, subst, ◌∙◌, arith, length-append, append_assoc}
 use Rattle.std.proofs.lemmas.List.Elements.{All-nil, All-head, All-tail}
 use Rattle.std.proofs.lemmas.List.{append-nil}
 use Rattle.src_text.specs.Line.{cut}
 use Rattle.effect_checker.specs.Faults.{IsLeastFault}
-use Rattle.rv_listing.specs.Listing.{listing_of}
+use Rattle.rv_listing.specs.Listing.{listing_of, listing_with_addresses}
 use Rattle.text_places.specs.declared.places.Located.{Located}
 use Rattle.text_pieces.specs.Pieces.{newline}
 use Rattle.run_replay.specs.Document.{title}
@@ -137,9 +137,11 @@ module _ (text answer : List ℕ) (l : Located) (is_located : IsLocated text l) 
   -- where the listing is empty too, it is explained as nothing
   empty-listing : (k : Located) (e : Explained) → IsListingAnswer text k answer e → e ≡ Text []
   unfolding line_behind
-  empty-listing k (Text out) h = ap Text (h.1 ∙ ap (λ (bs : List ℕ). explained_lines text k (cut bs)) (sym h.0 ∙ is))
+  empty-listing k (Text out) h = ap Text (h.1 ∙ ap (λ (bs : List ℕ). explained_lines text k (cut bs)) is)
   empty-listing k (Refused number) h =
-      let first : number ≡ 1 = h.1 ∙ ap (λ (bs : List ℕ). line_behind (alike bs (listing_of k.program))) is in absurd (omega (arith, first, h.2))
+      let first : number ≡ 1 =
+      h.1 ∙ ap (λ (bs : List ℕ). max (line_behind (alike bs (listing_of k.program))) (line_behind (alike bs (listing_with_addresses k.program)))) is in
+      absurd (omega (arith, first, h.2))
 
   empty-taken : (e : Explained) → IsExplained text answer e → e ≡ Text []
   empty-taken e (inl h) = absurd (no-fault text answer l is_located h.fault h.is)

@@ -1,5 +1,5 @@
 -- No line of an answer, and no document of a run, begins as the listing of a program: its first three bytes tell it from one.
-use Rattle.std.proofs.Common.{◌≡◌, ◌⊎◌, inl, inr, ℕ, ◌+◌, ◌*◌, ◌==◌, nat_lt, Bool, true, false, ◌&&◌, ◌||◌, if◌then◌else◌, List, [], ◌∷◌, ◌++◌, codes, length, map, flat_map, slice_range, Option, Some, None, refl, sym, ap, ◌∙◌, arith}
+use Rattle.std.proofs.Common.{◌≡◌, ◌≢◌, ◌⊎◌, max, inl, inr, ℕ, ◌+◌, ◌*◌, ◌==◌, nat_lt, Bool, true, false, ◌&&◌, ◌||◌, if◌then◌else◌, List, [], ◌∷◌, ◌++◌, codes, length, map, flat_map, slice_range, Option, Some, None, refl, sym, ap, ◌∙◌, arith}
 use Rattle.std.specs.Prelude.{count_by}
 use Rattle.std.specs.Fmt.{decimal, signed_decimal}
 use Rattle.std.proofs.lemmas.Bool.{true≢false, eqb-true}
@@ -8,6 +8,7 @@ use Rattle.src_text.specs.Byte.{is_newline}
 use Rattle.src_text.specs.Laws.{ended}
 use Rattle.region_table.specs.declared.declared.Region.{Region}
 use Rattle.region_table.specs.declared.declared.Phase.{Phase}
+use Rattle.region_table.specs.declared.program.TheConstants.{FIRST_CODE_ADDRESS}
 use Rattle.region_table.specs.Program.{ProgramParts}
 use Rattle.rv_isa.specs.Encoding.{decoded, encoded}
 use Rattle.rv_isa.specs.declared.instr.AluOp.{AluOp}
@@ -19,8 +20,8 @@ use Rattle.rv_isa.specs.declared.instr.Width as width
 use Rattle.rv_isa.specs.declared.instr.Instr.{Instr}
 use Rattle.rv_isa.specs.declared.instr.Instr.TheVariants.{Lui, Auipc, Jal, Jalr, Branch, Load, Store, OpImm, Op, Fence, Ecall, Ebreak}
 use Rattle.rv_listing.specs.Statement.{register, address, operands, more_operands, statement}
-use Rattle.rv_listing.specs.Instruction.{branch_word, load_word, store_word, immediate_word, operation_word, instruction_line, raw_line, line_by, code_line}
-use Rattle.rv_listing.specs.Listing.{text_of, version_lines, region_line, value_line, value_lines, region_values, lock_line, phase_lines, listed_lines, listing_of}
+use Rattle.rv_listing.specs.Instruction.{branch_word, load_word, store_word, immediate_word, operation_word, instruction_line, raw_line, line_by, code_line, addressed_line}
+use Rattle.rv_listing.specs.Listing.{text_of, version_lines, region_line, value_line, value_lines, region_values, lock_line, phase_lines, lines_with, code_lines, addressed_lines, listed_lines, listed_lines_with_addresses, listing_of, listing_with_addresses, listing_in}
 use Rattle.run_report.specs.Answer.{outcome_word, outcome_line, end_text, task_line, words_line}
 use Rattle.run_report.specs.Grants.{grant_line}
 use Rattle.run_report.specs.Run.{event_word, counted_line}
@@ -213,20 +214,24 @@ phases-start : (regions : List Region) (locks : List (List ℕ)) (ps : List Phas
 phases-start regions locks [] = tt
 phases-start regions locks (p ∷ ps) = of-three 46 112 104 (codes "ase") [] refl
 
-code-start : (code : List ℕ) → StartElse (map code_line code)
-unfolding code_line
-code-start [] = tt
-code-start (w ∷ ws) = word-else w (decoded w)
+else-more : (bytes more : List ℕ) → BeginsElse bytes → BeginsElse (bytes ++ more)
+else-more bytes more h = record { a = h.a; b = h.b; c = h.c; rest = h.rest ++ more; is = ap (λ (bs : List ℕ). bs ++ more) h.is; other = h.other }
 
-lines-start : (p : ProgramParts) → StartElse (listed_lines p)
-unfolding listed_lines
-lines-start p =
-    let code = map code_line p.code in
+code-start : (addresses : Bool) (code : List ℕ) → StartElse (code_lines addresses code)
+unfolding code_line addressed_line
+code-start false [] = tt
+code-start true [] = tt
+code-start false (w ∷ ws) = word-else w (decoded w)
+code-start true (w ∷ ws) = else-more (line_by w (decoded w)) (codes "  # " ++ hexadecimal FIRST_CODE_ADDRESS) (word-else w (decoded w))
+
+lines-start : (addresses : Bool) (p : ProgramParts) → StartElse (lines_with (code_lines addresses p.code) p)
+lines-start addresses p =
+    let code = code_lines addresses p.code in
     let phases = flat_map (phase_lines p.regions p.locks) p.phases in
     let locks = map lock_line p.locks in
     let values = flat_map (region_values p.memory) p.regions in
     let regions = map region_line p.regions in
-    let from_phases = start-append phases code (phases-start p.regions p.locks p.phases) (code-start p.code) in
+    let from_phases = start-append phases code (phases-start p.regions p.locks p.phases) (code-start addresses p.code) in
     let from_locks = start-append locks (phases ++ code) (locks-start p.locks) from_phases in
     let from_values = start-append values (locks ++ (phases ++ code)) (all-values-start p.memory p.regions) from_locks in
     let from_regions = start-append regions (values ++ (locks ++ (phases ++ code))) (regions-start p.regions) from_values in
@@ -257,18 +262,32 @@ none-alike bytes text h k = by_tests (h.a == k.a) (h.b == k.b) (h.c == k.c) refl
   by_tests true true true e f g =
       absurd (true≢false (sym h.of ∙ (λ i. is_answer (eqb-true h.a k.a e i) (eqb-true h.b k.b f i) (eqb-true h.c k.c g i)) ∙ k.other))
 
-no-listing : (text : List ℕ) (l : Located) (answer : List ℕ) → BeginsAnswer answer → IsNoListing text l answer
+-- the text is another one, and so is its first line
+abbrev DiffersAtOnce : (answer other : List ℕ) → Type 0
+DiffersAtOnce answer other = (answer ≢ other) × (line_behind (alike answer other) ≡ 1)
+
+differs-at_once : (answer other : List ℕ) → BeginsAnswer answer → (other ≡ []) ⊎ BeginsElse other → DiffersAtOnce answer other
 unfolding line_behind
-no-listing text l answer h = by_listing (text-start (listed_lines l.program) (lines-start l.program)) where
-  by_listing : (listing_of l.program ≡ []) ⊎ BeginsElse (listing_of l.program) → IsNoListing text l answer
-  by_listing (inl none) = (
-    λ same. let empty : h.a ∷ h.b ∷ h.c ∷ h.rest ≡ [] = sym h.is ∙ same ∙ none in omega (arith, ap length empty),
-    λ i. line_behind (alike (h.is i) (none i)),
-  )
-  by_listing (inr k) = (
-    λ same. true≢false (sym h.of ∙ ap begins_answer (sym h.is ∙ same ∙ k.is) ∙ k.other),
-    (λ i. line_behind (alike (h.is i) (k.is i))) ∙ ap (λ (n : ℕ). n + 1) (none-alike answer (listing_of l.program) h k),
-  )
+differs-at_once answer other h (inl none) = (
+  λ same. let empty : h.a ∷ h.b ∷ h.c ∷ h.rest ≡ [] = sym h.is ∙ same ∙ none in omega (arith, ap length empty),
+  λ i. line_behind (alike (h.is i) (none i)),
+)
+differs-at_once answer other h (inr k) = (
+  λ same. true≢false (sym h.of ∙ ap begins_answer (sym h.is ∙ same ∙ k.is) ∙ k.other),
+  (λ i. line_behind (alike (h.is i) (k.is i))) ∙ ap (λ (n : ℕ). n + 1) (none-alike answer other h k),
+)
+
+differs-from_listing : (l : Located) (answer : List ℕ) → BeginsAnswer answer → (addresses : Bool) → DiffersAtOnce answer (listing_in addresses l.program)
+unfolding listed_lines listed_lines_with_addresses
+differs-from_listing l answer h false = differs-at_once answer (listing_of l.program) h (text-start (listed_lines l.program) (lines-start false l.program))
+differs-from_listing l answer h true =
+    differs-at_once answer (listing_with_addresses l.program) h (text-start (listed_lines_with_addresses l.program) (lines-start true l.program))
+
+no-listing : (text : List ℕ) (l : Located) (answer : List ℕ) → BeginsAnswer answer → IsNoListing text l answer
+no-listing text l answer h =
+    let plain = differs-from_listing l answer h false in
+    let addressed = differs-from_listing l answer h true in
+    (λ addresses. (differs-from_listing l answer h addresses).0, λ i. max (plain.1 i) (addressed.1 i))
 
 -- ---- the lines of answers, and documents
 

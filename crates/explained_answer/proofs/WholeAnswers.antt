@@ -4,11 +4,11 @@ use Rattle.region_table.specs.Program.{ProgramParts}
 use Rattle.rv_assembler.specs.declared.fault.SourceFault.{SourceFault}
 use Rattle.rv_assembler.specs.Source.{source}
 use Rattle.effect_checker.specs.Faults.{IsLeastFault}
-use Rattle.rv_listing.specs.Listing.{listing_of}
+use Rattle.rv_listing.specs.Listing.{listing_in}
 use Rattle.text_places.specs.declared.places.Located.{Located}
 use Rattle.run_replay.specs.declared.trace.Trace.{Trace}
 use Rattle.explained_answer.specs.declared.taken.Taken as taken
-use Rattle.explained_answer.specs.Listing.{explained_listing, first_other_line}
+use Rattle.explained_answer.specs.Listing.{explained_listing, first_other_line, IsAListing}
 use Rattle.explained_answer.specs.Trace.{IsTraceOf, IsTraceTaken}
 use Rattle.explained_answer.proofs.Heads.{trace-taken}
 use Rattle.explained_answer.specs.declared.explaining.Explained.{Explained}
@@ -26,15 +26,19 @@ module _ (text answer : List ℕ) (l : Located) (is_located : IsLocated text l) 
   pub no-fault : (f : SourceFault) → source text ≡ Err f → ⊥
   no-fault f is = let other : ◌≡◌ {A = Result ProgramParts SourceFault} (Ok l.program) (Err f) = sym is_located.program ∙ is in absurd (cc)
 
-  module _ (listed : answer ≡ listing_of l.program) where
+  module _ (listed : IsAListing l answer) where
+    -- it is one of every program of the text
+    listed-too : (k : Located) → IsLocated text k → answer ≡ listing_in listed.0 k.program
+    listed-too k has = listed.1 ∙ ap (λ (m : Located). listing_in listed.0 m.program) (one-located text l k is_located has)
+
     unlisted : (k : Located) → IsLocated text k → IsNoListing text k answer → ⊥
-    unlisted k has none = none.0 (listed ∙ ap (λ (m : Located). listing_of m.program) (one-located text l k is_located has))
+    unlisted k has none = none.0 listed.0 (listed-too k has)
 
-    listed-answer : (k : Located) (e : Explained) → IsLocated text k → IsListingAnswer text k answer e → e ≡ Text (explained_listing text l)
-    listed-answer k (Text out) has h = ap Text (h.1 ∙ ap (explained_listing text) (one-located text k l has is_located))
-    listed-answer k (Refused number) has h = absurd (h.0 (listed ∙ ap (λ (m : Located). listing_of m.program) (one-located text l k is_located has)))
+    listed-answer : (k : Located) (e : Explained) → IsLocated text k → IsListingAnswer text k answer e → e ≡ Text (explained_listing text l answer)
+    listed-answer k (Text out) has h = ap Text (h.1 ∙ ap (λ (m : Located). explained_listing text m answer) (one-located text k l has is_located))
+    listed-answer k (Refused number) has h = absurd (h.0 listed.0 (listed-too k has))
 
-    pub listing-taken : (e : Explained) → IsExplained text answer e → e ≡ Text (explained_listing text l)
+    pub listing-taken : (e : Explained) → IsExplained text answer e → e ≡ Text (explained_listing text l answer)
     listing-taken e (inl h) = absurd (no-fault h.fault h.is)
     listing-taken e (inr (inl h)) = listed-answer h.located e h.is_located h.answer_is
     listing-taken e (inr (inr (inl h))) = absurd (unlisted h.located h.is_located h.no_listing)
@@ -43,7 +47,7 @@ module _ (text answer : List ℕ) (l : Located) (is_located : IsLocated text l) 
 
   module _ (no_listing : IsNoListing text l answer) where
     pub not-listed : (k : Located) (e : Explained) → IsLocated text k → IsListingAnswer text k answer e → ⊥
-    not-listed k (Text out) has h = no_listing.0 (h.0 ∙ ap (λ (m : Located). listing_of m.program) (one-located text k l has is_located))
+    not-listed k (Text out) has h = no_listing.0 h.0.0 (h.0.1 ∙ ap (λ (m : Located). listing_in h.0.0 m.program) (one-located text k l has is_located))
     not-listed k (Refused number) has h =
         let line : number ≡ first_other_line l answer = h.1 ∙ ap (λ (m : Located). first_other_line m answer) (one-located text k l has is_located) in
         omega (arith, line, no_listing.1, h.2)

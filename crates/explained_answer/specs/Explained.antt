@@ -32,14 +32,14 @@ pub record IsLocated (text : List ℕ) (l : Located) : Type 0 where
 
 -- ---- the listing of the text's program, and the document of a run of the text
 
--- the answer's first line isn't the listing's; or isn't a document's
+-- the answer's first line isn't a listing's; or isn't a document's
 abbrev pub IsNoListing : List ℕ → Located → List ℕ → Type 0
 IsNoListing text l answer = IsListingTaken text l answer [] [] taken.TheVariants.Other
 
 abbrev pub IsNoTrace : (text answer : List ℕ) → Type 0
 IsNoTrace text answer = IsTraceTaken text answer taken.TheVariants.Other
 
--- the answer is the listing, and is explained; or it begins so, and its first line that differs is named
+-- the answer is a listing, and is explained; or it begins so, and its first line that differs is named
 abbrev pub IsListingAnswer : List ℕ → Located → List ℕ → Explained → Type 0
 IsListingAnswer text l answer (explained.TheVariants.Text out) = IsListingTaken text l answer [] out taken.TheVariants.Whole
 IsListingAnswer text l answer (explained.TheVariants.Refused number) = IsListingTaken text l answer [] [] (taken.TheVariants.Stops number)

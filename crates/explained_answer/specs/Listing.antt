@@ -1,9 +1,9 @@
 -- A listing, explained: its lines are repeated, and after the line of each code word comes the line of the text that gives the
 -- word.
-use Rattle.std.specs.Prelude.{◌≡◌, ◌≢◌, ℕ, ◌+◌, ◌-◌, ◌<◌, ◌==◌, nat_lt, List, [], ◌∷◌, ◌++◌, codes, length, slice_get, Option, Some, None, if◌then◌else◌}
+use Rattle.std.specs.Prelude.{◌≡◌, ◌≢◌, ℕ, Bool, ◌+◌, ◌-◌, ◌<◌, ◌==◌, max, nat_lt, List, [], ◌∷◌, ◌++◌, codes, length, slice_get, Option, Some, None, if◌then◌else◌}
 use Rattle.src_text.specs.Laws.{ended}
 use Rattle.src_text.specs.Line.{cut}
-use Rattle.rv_listing.specs.Listing.{listing_of}
+use Rattle.rv_listing.specs.Listing.{listing_of, listing_with_addresses, listing_in}
 use Rattle.text_places.specs.declared.places.CodePlace.{CodePlace}
 use Rattle.text_places.specs.declared.places.Located.{Located}
 use Rattle.text_places.specs.Texts.{quoted_line}
@@ -41,18 +41,24 @@ explained_from text l first number (line ∷ lines) = ended line ++ (said_of_row
 abbrev pub explained_lines : List ℕ → Located → List (List ℕ) → List ℕ
 explained_lines text l lines = explained_from text l (length lines - length l.program.code) 0 lines
 
-abbrev pub explained_listing : List ℕ → Located → List ℕ
-explained_listing text l = explained_lines text l (cut (listing_of l.program))
+abbrev pub explained_listing : (text : List ℕ) → Located → (listing : List ℕ) → List ℕ
+explained_listing text l listing = explained_lines text l (cut listing)
 
--- ---- which answers are the listing
+-- ---- which answers are a listing
 
--- the first line of an answer that isn't the listing's
+-- the answer is the listing of the program, with addresses or without; or it is neither
+abbrev pub IsAListing : Located → List ℕ → Type 0
+IsAListing l answer = (addresses : Bool) × (answer ≡ listing_in addresses l.program)
+
+abbrev pub IsNeitherListing : Located → List ℕ → Type 0
+IsNeitherListing l answer = (addresses : Bool) → answer ≢ listing_in addresses l.program
+
+-- the first line of an answer that isn't the listing's: of the one that it goes along with farther
 abbrev pub first_other_line : Located → List ℕ → ℕ
-first_other_line l answer = line_behind (alike answer (listing_of l.program))
+first_other_line l answer = max (line_behind (alike answer (listing_of l.program))) (line_behind (alike answer (listing_with_addresses l.program)))
 
--- the answer is the listing; or it begins with the listing's first line, and then differs; or its first line differs
+-- the answer is a listing; or it begins with the first line of one, and then differs; or its first line differs
 abbrev pub IsListingTaken : (text : List ℕ) → Located → (answer before after : List ℕ) → Taken → Type 0
-IsListingTaken text l answer before after taken.TheVariants.Whole = (answer ≡ listing_of l.program) × (after ≡ before ++ explained_listing text l)
-IsListingTaken text l answer before after (taken.TheVariants.Stops line) =
-    (answer ≢ listing_of l.program) × (line ≡ first_other_line l answer) × (1 < line)
-IsListingTaken text l answer before after taken.TheVariants.Other = (answer ≢ listing_of l.program) × (first_other_line l answer ≡ 1)
+IsListingTaken text l answer before after taken.TheVariants.Whole = IsAListing l answer × (after ≡ before ++ explained_listing text l answer)
+IsListingTaken text l answer before after (taken.TheVariants.Stops line) = IsNeitherListing l answer × (line ≡ first_other_line l answer) × (1 < line)
+IsListingTaken text l answer before after taken.TheVariants.Other = IsNeitherListing l answer × (first_other_line l answer ≡ 1)

@@ -2,10 +2,9 @@
 ghost use Rattle.std.specs.Prelude.{◌≡◌, ◌≤◌, ◌⊎◌, List, length, flat_map, IfOk};
 ghost use Rattle.std.specs.List.{All};
 ghost use Rattle.effect_checker.specs.Checked.{IsChecked};
-ghost use Rattle.rv_listing.specs.Listing.{listing_of};
 ghost use Rattle.run_replay.specs.declared.trace.Trace.{Trace};
 ghost use Rattle.text_places.specs.declared.places.Located.{Located as LocatedOf};
-ghost use Rattle.explained_answer.specs.Listing.{explained_listing};
+ghost use Rattle.explained_answer.specs.Listing.{explained_listing, IsAListing};
 ghost use Rattle.explained_answer.specs.Trace.{IsTraceOf};
 ghost use Rattle.explained_answer.specs.declared.line.AnswerLine.{AnswerLine as LineOf};
 ghost use Rattle.explained_answer.specs.AnswerLines.{answer_line};
@@ -130,7 +129,7 @@ fn explained_text(alloc: Global, text: &[u8], answer: &[u8]) -> Result<Explained
 /// `Memory` if there is no room.
 pub fn explain(alloc: Global, text: &[u8], answer: &[u8]) -> Result<Explained, Memory>
     ensures explained { IfOk result (IsExplained text.now answer.now) }
-    ensures listing { IfOk result (λ e. (l : LocatedOf) → IsLocated text.now l → answer.now ≡ listing_of l.program → e ≡ TextOf (explained_listing text.now l)) }
+    ensures listing { IfOk result (λ e. (l : LocatedOf) → IsLocated text.now l → IsAListing l answer.now → e ≡ TextOf (explained_listing text.now l answer.now)) }
     ensures trace { IfOk result (λ e. (l : LocatedOf) (t : Trace) → IsLocated text.now l → HasNoConflict l.program
         → IsTraceOf text.now answer.now t → e ≡ TextOf answer.now) }
     ensures taken { IfOk result (λ e. (l : LocatedOf) (lines : List LineOf) → IsLocated text.now l → HasNoConflict l.program

@@ -3,11 +3,12 @@ ghost use Rattle.std.specs.Prelude.{◌≡◌, ◌++◌, map, OnOk, IfOk};
 ghost use Rattle.src_text.specs.Line.{cut};
 ghost use Rattle.sentences.specs.Quotes.{AreSpans, span_bytes};
 ghost use Rattle.explained_answer.specs.Listing.{given_by, second_given_by, word_said, code_said, said_of_row, explained_from, explained_lines, explained_listing, IsListingTaken};
+ghost use Rattle.explained_answer.specs.Fronts.{alike, line_behind};
 
 use crate::fronts::{alike, line_behind};
 use crate::taken::Taken;
 use dn_base::Memory;
-use rv_listing::listing;
+use rv_listing::{listing, listing_with_addresses};
 use sentences::{line_spans, push_line};
 use src_text::Span;
 use std::alloc::Global;
@@ -132,10 +133,17 @@ fn push_explained(
     )
 }
 
-/// Takes an answer that is the listing of a text's program, as the mode list prints it. Appends each of its lines, and after
+/// The first line of an answer that isn't this listing's.
+fn first_other(answer: &[u8], listing: &[u8]) -> usize
+    ensures { result ≡ line_behind (alike answer.now listing.now) }
+{
+    line_behind(&answer[..alike(answer, listing)])
+}
+
+/// Takes an answer that is the listing of a text's program, as the mode list prints it, with addresses or without. Appends each of its lines, and after
 /// the line of a code word the line of the text that gives it.
 ///
-/// If an answer begins with the listing's first line, and isn't the listing, the first line that differs is given. Of any other
+/// If an answer begins with a listing's first line, and isn't the listing, the first line that differs is given. Of any other
 /// answer nothing is said. In both cases the end of `out` isn't defined.
 ///
 /// # Errors
@@ -149,12 +157,13 @@ pub fn take_listing(
 ) -> Result<Taken, Memory>
     ensures { IfOk result (IsListingTaken text.now located.now answer.now out.old.items out.new.items) }
 {
-    let wanted = listing(alloc, &located.program)?;
-    if answer == wanted.as_slice() {
+    let plain = listing(alloc, &located.program)?;
+    let addressed = listing_with_addresses(alloc, &located.program)?;
+    if answer == plain.as_slice() || answer == addressed.as_slice() {
         push_explained(alloc, out, text, located, answer)?;
         return Ok(Taken::Whole);
     }
-    let line = line_behind(&answer[..alike(answer, wanted.as_slice())]);
+    let line = first_other(answer, plain.as_slice()).max(first_other(answer, addressed.as_slice()));
     if line == 1 {
         Ok(Taken::Other)
     } else {

@@ -1,7 +1,7 @@
 -- A command whose options have one value each: its options, what is wrong with command words, and the values that they give.
-use Rattle.std.specs.Prelude.{ℕ, pos, true, List, [], ◌∷◌, Option, Some, None, option_and_then}
+use Rattle.std.specs.Prelude.{ℕ, pos, Bool, true, false, codes, bytes_eq, if◌then◌else◌, List, [], ◌∷◌, Option, Some, None, option_and_then}
 use Rattle.std.specs.Borrow.{Bor}
-use Rattle.clap.specs.Walk.{Row, Rule, Text, one_of}
+use Rattle.clap.specs.Walk.{Row, Rule, Text, first_of, one_of}
 use Rattle.clap.specs.Simple.{App, new_rule, matches_of, on_top, with_rule}
 use Rattle.clap.specs.Kinds.{Kinds}
 use Rattle.clap.specs.Faults.{fault_of}
@@ -49,6 +49,13 @@ values_in command words = matches_of command words
 -- the value of an option, if it is a number from low to high
 abbrev pub number_in : List Row → Text → ℕ → ℕ → Option ℕ
 number_in rows name low high = option_and_then (if_within low high) (option_and_then number_in_text (one_of name rows))
+
+-- whether an option is on, if its value is one of these two
+abbrev pub switch_named : Text → Option Bool
+switch_named text = if bytes_eq text (codes "on") then Some true else if bytes_eq text (codes "off") then Some false else None
+
+abbrev pub switch_in : List Row → Text → Option Bool
+switch_in rows name = option_and_then switch_named (first_of name rows)
 
 -- what is asked for, if the words have no fault
 abbrev pub where_taken : {O : Type 0} → Kinds → Option O → Option O

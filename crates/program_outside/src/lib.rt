@@ -17,7 +17,7 @@ pub use programs::{Answers, Program};
 pub use reading::{ReadError, read_opened, read_text};
 pub use serving::{end_without_text, refuse_words, reply, serve, serve_words};
 pub use words::{
-    OptionValue, WordsFault, bare_command, matches_by, number, number_option, text_option,
-    with_option, with_options,
+    OptionValue, WordsFault, bare_command, matches_by, number, number_option, switch, text_of,
+    text_option, with_option, with_options,
 };
 pub use writing::write_text;

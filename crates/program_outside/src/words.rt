@@ -1,8 +1,8 @@
-ghost use Rattle.std.specs.Prelude.{◌≡◌, ◌≢◌, IfOk, IfErr, [], Some, None, true, false, map, string_bytes, option_and_then};
+ghost use Rattle.std.specs.Prelude.{◌≡◌, ◌≢◌, IfOk, IfErr, [], Some, None, true, false, map, string_bytes, option_and_then, option_map};
 ghost use Rattle.std.specs.Int.{IsInRange};
-ghost use Rattle.clap.specs.Words.{app_of, new_app, with_rule, rule_of, rows_of, found_of, one_of, is_simple_and_free};
+ghost use Rattle.clap.specs.Words.{app_of, new_app, with_rule, rule_of, rows_of, found_of, first_of, one_of, is_simple_and_free};
 ghost use Rattle.program_outside.specs.Numbers.{number_in_text};
-ghost use Rattle.program_outside.specs.Words.{bare, text_rule, number_rule, open_number_rule, rule_with, with_rules, number_in, faults_in, values_in};
+ghost use Rattle.program_outside.specs.Words.{bare, text_rule, number_rule, open_number_rule, rule_with, with_rules, number_in, switch_in, switch_named, faults_in, values_in};
 ghost use Rattle.program_outside.specs.declared.words.WordsFault.TheVariants.{Usage};
 
 use clap::error::ErrorKind;
@@ -160,5 +160,33 @@ pub fn number(matches: &ArgMatches<'_>, name: &str, low: u32, high: u32) -> Opti
     match number_of(matches, name) {
         Some(number) if low <= number && number <= high => Some(number),
         _ => None,
+    }
+}
+
+/// The text that is the value of an option.
+pub fn text_of<'a>(matches: &ArgMatches<'a>, name: &str) -> Option<&'a str>
+    ensures { option_map (λ s. s.now) result ≡ first_of name.now (rows_of (found_of matches.now)) }
+{
+    matches.get_str(name)
+}
+
+/// Whether an option with this value is on; None if the value is neither `on` nor `off`.
+fn switch_named(text: &str) -> Option<bool>
+    ensures { result ≡ switch_named text.now }
+{
+    match text {
+        "on" => Some(true),
+        "off" => Some(false),
+        _ => None,
+    }
+}
+
+/// Whether an option is on, if its value is `on` or `off`.
+pub fn switch(matches: &ArgMatches<'_>, name: &str) -> Option<bool>
+    ensures { result ≡ switch_in (rows_of (found_of matches.now)) name.now }
+{
+    match text_of(matches, name) {
+        Some(text) => switch_named(text),
+        None => None,
     }
 }

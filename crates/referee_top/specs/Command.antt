@@ -2,7 +2,7 @@
 use Rattle.std.specs.Prelude.{Bool, true, false, List, codes, bytes_eq, Option, Some, None, option_and_then, if◌then◌else◌}
 use Rattle.clap.specs.Walk.{Row, Text, first_of}
 use Rattle.clap.specs.Simple.{App, new_app, with_rule}
-use Rattle.program_outside.specs.Words.{bare, faults_in, text_rule, values_in, where_taken}
+use Rattle.program_outside.specs.Words.{bare, faults_in, switch_in, text_rule, values_in, where_taken}
 use Rattle.referee_top.specs.declared.mode.RefereeMode.{RefereeMode}
 use Rattle.referee_top.specs.declared.mode.RefereeMode as mode
 use Rattle.referee_top.specs.declared.mode.RefereeOptions.{RefereeOptions}
@@ -21,16 +21,13 @@ referee_mode_named text =
     else if bytes_eq text (codes "least") then Some mode.TheVariants.Least
     else None
 
--- whether several claims may follow each other, as a text says it
-abbrev pub batch_named : Text → Option Bool
-batch_named text = if bytes_eq text (codes "on") then Some true else if bytes_eq text (codes "off") then Some false else None
-
 -- the values among the command's
 abbrev pub referee_mode_in : List Row → Option RefereeMode
 referee_mode_in rows = option_and_then referee_mode_named (first_of (codes "mode") rows)
 
+-- whether several claims may follow each other
 abbrev pub batch_in : List Row → Option Bool
-batch_in rows = option_and_then batch_named (first_of (codes "batch") rows)
+batch_in rows = switch_in rows (codes "batch")
 
 -- the modes that take several claims: those that judge
 abbrev pub takes_batch : RefereeMode → Bool

@@ -1,12 +1,12 @@
-ghost use Rattle.std.specs.Prelude.{◌≡◌, IfOk, IfErr, map, string_bytes, Some, None, codes, option_map};
-ghost use Rattle.clap.specs.Words.{rows_of, found_of, first_of};
+ghost use Rattle.std.specs.Prelude.{◌≡◌, IfOk, IfErr, map, string_bytes, Some, None};
+ghost use Rattle.clap.specs.Words.{rows_of, found_of};
 ghost use Rattle.program_outside.specs.declared.words.WordsFault.TheVariants.{Usage};
-ghost use Rattle.referee_top.specs.Command.{batch_in, batch_named, referee_options, referee_mode_in, referee_mode_named, referee_options_in, referee_options_of, takes_batch};
+ghost use Rattle.referee_top.specs.Command.{batch_in, referee_options, referee_mode_in, referee_mode_named, referee_options_in, referee_options_of, takes_batch};
 
 use crate::command::referee;
 use crate::mode::{RefereeMode, RefereeOptions};
 use clap::ArgMatches;
-use program_outside::{WordsFault, matches_by};
+use program_outside::{WordsFault, matches_by, switch, text_of};
 use std::alloc::Global;
 
 /// The mode of this name.
@@ -23,36 +23,11 @@ fn mode_named(text: &str) -> Option<RefereeMode>
     }
 }
 
-/// Whether several claims may follow each other, by this text.
-fn batch_named(text: &str) -> Option<bool>
-    ensures { result ≡ batch_named text.now }
-{
-    match text {
-        "on" => Some(true),
-        "off" => Some(false),
-        _ => None,
-    }
-}
-
-/// The text of the option `--mode`.
-fn mode_text<'a>(matches: &ArgMatches<'a>) -> Option<&'a str>
-    ensures { option_map (λ s. s.now) result ≡ first_of (codes "mode") (rows_of (found_of matches.now)) }
-{
-    matches.get_str("mode")
-}
-
-/// The text of the option `--batch`.
-fn batch_text<'a>(matches: &ArgMatches<'a>) -> Option<&'a str>
-    ensures { option_map (λ s. s.now) result ≡ first_of (codes "batch") (rows_of (found_of matches.now)) }
-{
-    matches.get_str("batch")
-}
-
 /// The mode that the words ask for.
 fn mode(matches: &ArgMatches<'_>) -> Option<RefereeMode>
     ensures { result ≡ referee_mode_in (rows_of (found_of matches.now)) }
 {
-    match mode_text(matches) {
+    match text_of(matches, "mode") {
         Some(text) => mode_named(text),
         None => None,
     }
@@ -62,10 +37,7 @@ fn mode(matches: &ArgMatches<'_>) -> Option<RefereeMode>
 fn batch(matches: &ArgMatches<'_>) -> Option<bool>
     ensures { result ≡ batch_in (rows_of (found_of matches.now)) }
 {
-    match batch_text(matches) {
-        Some(text) => batch_named(text),
-        None => None,
-    }
+    switch(matches, "batch")
 }
 
 /// Whether a mode takes several claims.

@@ -45,6 +45,10 @@ unfoldable pub task_line : TaskEnd → List ℕ
 task_line t =
     codes "task " ++ decimal t.phase.0 ++ space ++ decimal t.core.0 ++ space ++ end_text t.end ++ codes " retired " ++ decimal t.retired ++ newline
 
+-- the same without the count of its instructions
+unfoldable pub task_line_without_retired : TaskEnd → List ℕ
+task_line_without_retired t = codes "task " ++ decimal t.phase.0 ++ space ++ decimal t.core.0 ++ space ++ end_text t.end ++ newline
+
 unfoldable pub words_line : ℕ → List ℕ
 words_line count = codes "words " ++ decimal count ++ newline
 
@@ -62,3 +66,8 @@ word_lines w (value ∷ values) = word_line w value ++ word_lines (w + 1) values
 unfoldable pub answer_of : Ending → List ℕ
 answer_of e =
     outcome_line e.outcome ++ flat_map task_line e.tasks ++ words_line (length e.memory) ++ word_lines 0 e.memory
+
+-- the same without the counts of instructions
+unfoldable pub answer_without_retired : Ending → List ℕ
+answer_without_retired e =
+    outcome_line e.outcome ++ flat_map task_line_without_retired e.tasks ++ words_line (length e.memory) ++ word_lines 0 e.memory

@@ -1,5 +1,5 @@
 ghost use Rattle.std.specs.Prelude.{◌≡◌, ◌+◌, ◌*◌, ◌++◌, ◌<◌, ◌≤◌, length, flat_map, IfOk, OnOk};
-ghost use Rattle.run_report.specs.Answer.{outcome_word, kind_word, end_text, outcome_line, task_line, words_line, word_line, word_lines, answer_of};
+ghost use Rattle.run_report.specs.Answer.{outcome_word, kind_word, end_text, outcome_line, task_line, task_line_without_retired, words_line, word_line, word_lines, answer_of, answer_without_retired};
 
 use dn_base::{MOST_WORDS, Memory, Outcome};
 use region_table::FIRST_DATA_ADDRESS;
@@ -97,6 +97,28 @@ fn push_tasks(out: &mut Vec<u8>, tasks: &[TaskEnd]) -> Result<(), Memory>
     Ok(())
 }
 
+#[tactic(auto, unfolding(crate::specs::Answer::task_line_without_retired))]
+fn push_task_without_retired(out: &mut Vec<u8>, task: TaskEnd) -> Result<(), Memory>
+    ensures { OnOk result (out.new.items ≡ out.old.items ++ task_line_without_retired task) }
+{
+    push(out, b"task ")?;
+    push_decimal(out, task.phase.0)?;
+    push(out, b" ")?;
+    push_decimal(out, task.core.0)?;
+    push(out, b" ")?;
+    push_end(out, task.end)?;
+    push(out, b"\n")
+}
+
+fn push_tasks_without_retired(out: &mut Vec<u8>, tasks: &[TaskEnd]) -> Result<(), Memory>
+    ensures { OnOk result (out.new.items ≡ out.old.items ++ flat_map task_line_without_retired tasks.now) }
+{
+    for task in tasks {
+        push_task_without_retired(out, *task)?;
+    }
+    Ok(())
+}
+
 #[tactic(auto, unfolding(crate::specs::Answer::words_line))]
 pub(crate) fn push_count(out: &mut Vec<u8>, count: u32) -> Result<(), Memory>
     ensures { OnOk result (out.new.items ≡ out.old.items ++ words_line count) }
@@ -149,6 +171,25 @@ pub fn answer_text(alloc: Global, ending: &Ending) -> Result<Vec<u8>, Memory>
     let mut out = Vec::new(alloc);
     push_outcome(&mut out, ending.outcome)?;
     push_tasks(&mut out, ending.tasks.as_slice())?;
+    push_count(&mut out, ending.memory.len() as u32)?;
+    push_words(&mut out, ending.memory.as_slice())?;
+    Ok(out)
+}
+
+/// The answer of a run without the counts of instructions: the same lines as of `answer_text`, but each task's ends with how the
+/// task stands.
+///
+/// # Errors
+/// `Memory` where there is no room for the text.
+#[tactic(auto, unfolding(crate::specs::Answer::answer_without_retired))]
+pub fn answer_text_without_retired(alloc: Global, ending: &Ending) -> Result<Vec<u8>, Memory>
+    requires words { length ending.now.memory ≤ MOST_WORDS }
+    requires tasks { length ending.now.tasks ≤ 64 }
+    ensures { IfOk result (λ text. text.items ≡ answer_without_retired ending.now) }
+{
+    let mut out = Vec::new(alloc);
+    push_outcome(&mut out, ending.outcome)?;
+    push_tasks_without_retired(&mut out, ending.tasks.as_slice())?;
     push_count(&mut out, ending.memory.len() as u32)?;
     push_words(&mut out, ending.memory.as_slice())?;
     Ok(out)

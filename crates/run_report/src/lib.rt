@@ -11,7 +11,7 @@ mod refusal;
 mod run;
 mod totals;
 
-pub use answer::{answer_text, kind_name, outcome_name, push_end};
+pub use answer::{answer_text, answer_text_without_retired, kind_name, outcome_name, push_end};
 pub use grants::grant_text;
 pub use programs::{Stop, checked_of, program_of};
 pub use refusal::{Refusal, refusal_line};

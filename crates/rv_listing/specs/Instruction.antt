@@ -1,5 +1,5 @@
 -- How a code word is written in a listing.
-use Rattle.std.specs.Prelude.{ℕ, ◌==◌, List, [], ◌∷◌, Option, Some, None, codes, if◌then◌else◌}
+use Rattle.std.specs.Prelude.{ℕ, ◌==◌, List, [], ◌∷◌, ◌++◌, Option, Some, None, codes, if◌then◌else◌}
 use Rattle.std.specs.Fmt.{decimal, signed_decimal}
 use Rattle.rv_isa.specs.Encoding.{decoded, encoded}
 use Rattle.rv_isa.specs.declared.instr.AluOp.{AluOp}
@@ -85,3 +85,7 @@ line_by w (Some i) = if encoded i == w then instruction_line i else raw_line w
 
 unfoldable pub code_line : ℕ → List ℕ
 code_line w = line_by w (decoded w)
+
+-- the line of a code word, and behind it the address of the word, as a comment
+unfoldable pub addressed_line : ℕ → ℕ → List ℕ
+addressed_line address w = code_line w ++ (codes "  # " ++ hexadecimal address)

@@ -1,5 +1,5 @@
 -- The listing of a program: the source text that is printed for it, line by line.
-use Rattle.std.specs.Prelude.{ℕ, ◌+◌, ◌-◌, ◌==◌, min, max, nat_lt, List, [], ◌∷◌, ◌++◌, length, map, filter_map, flat_map, slice_range, slice_index_or, Option, Some, None, codes, if◌then◌else◌}
+use Rattle.std.specs.Prelude.{ℕ, Bool, true, false, ◌+◌, ◌-◌, ◌==◌, min, max, nat_lt, List, [], ◌∷◌, ◌++◌, length, map, filter_map, flat_map, slice_range, slice_index_or, Option, Some, None, codes, if◌then◌else◌}
 use Rattle.std.specs.Fmt.{decimal}
 use Rattle.src_text.specs.Laws.{ended}
 use Rattle.region_table.specs.declared.interval.Interval.{Interval}
@@ -7,9 +7,10 @@ use Rattle.region_table.specs.declared.declared.Region.{Region}
 use Rattle.region_table.specs.declared.declared.Effects.{Effects}
 use Rattle.region_table.specs.declared.declared.TaskDecl.{TaskDecl}
 use Rattle.region_table.specs.declared.declared.Phase.{Phase}
+use Rattle.region_table.specs.declared.program.TheConstants.{FIRST_CODE_ADDRESS}
 use Rattle.region_table.specs.Program.{ProgramParts}
 use Rattle.rv_listing.specs.Statement.{hexadecimal, statement}
-use Rattle.rv_listing.specs.Instruction.{code_line}
+use Rattle.rv_listing.specs.Instruction.{addressed_line, code_line}
 
 -- lines one after the other, each with its newline
 abbrev pub text_of : List (List ℕ) → List ℕ
@@ -81,14 +82,42 @@ task_lines regions locks t = task_line t ∷ effect_lines regions locks t.effect
 abbrev pub phase_lines : List Region → List (List ℕ) → Phase → List (List ℕ)
 phase_lines regions locks p = statement (codes ".phase") [] ∷ flat_map (task_lines regions locks) p.tasks
 
--- the version, the regions, the first values, the locks, the phases with their tasks, and the code
-unfoldable pub listed_lines : ProgramParts → List (List ℕ)
-listed_lines p =
+-- the version, the regions, the first values, the locks, the phases with their tasks, and then these lines of the code
+abbrev pub lines_with : List (List ℕ) → ProgramParts → List (List ℕ)
+lines_with code p =
     version_lines p.regions
     ++ (map region_line p.regions
     ++ (flat_map (region_values p.memory) p.regions
-    ++ (map lock_line p.locks ++ (flat_map (phase_lines p.regions p.locks) p.phases ++ map code_line p.code))))
+    ++ (map lock_line p.locks ++ (flat_map (phase_lines p.regions p.locks) p.phases ++ code))))
+
+-- the version, the regions, the first values, the locks, the phases with their tasks, and the code
+unfoldable pub listed_lines : ProgramParts → List (List ℕ)
+listed_lines p = lines_with (map code_line p.code) p
 
 -- the listing of a program
 abbrev pub listing_of : ProgramParts → List ℕ
 listing_of p = text_of (listed_lines p)
+
+-- ---- with addresses
+
+-- the lines of code words that follow each other from an address on
+abbrev pub addressed_lines : ℕ → List ℕ → List (List ℕ)
+addressed_lines address [] = []
+addressed_lines address (w ∷ ws) = addressed_line address w ∷ addressed_lines (address + 4) ws
+
+-- the lines of the code, with addresses or without
+abbrev pub code_lines : Bool → List ℕ → List (List ℕ)
+code_lines false code = map code_line code
+code_lines true code = addressed_lines FIRST_CODE_ADDRESS code
+
+-- the listing of a program with the address of each code word; the first one's is 0x1000
+unfoldable pub listed_lines_with_addresses : ProgramParts → List (List ℕ)
+listed_lines_with_addresses p = lines_with (addressed_lines FIRST_CODE_ADDRESS p.code) p
+
+abbrev pub listing_with_addresses : ProgramParts → List ℕ
+listing_with_addresses p = text_of (listed_lines_with_addresses p)
+
+-- the listing, with addresses or without
+abbrev pub listing_in : Bool → ProgramParts → List ℕ
+listing_in false p = listing_of p
+listing_in true p = listing_with_addresses p

@@ -2,12 +2,12 @@
 ghost use Rattle.std.specs.Prelude.{◌≡◌, [], ◌∷◌, ◌++◌, OnOk};
 ghost use Rattle.src_text.specs.Laws.{ended};
 ghost use Rattle.rv_listing.specs.Statement.{register, address, statement};
-ghost use Rattle.rv_listing.specs.Instruction.{branch_word, load_word, store_word, immediate_word, operation_word, instruction_line, raw_line, code_line};
+ghost use Rattle.rv_listing.specs.Instruction.{branch_word, load_word, store_word, immediate_word, operation_word, instruction_line, raw_line, code_line, addressed_line};
 
 use crate::statement::{Operand, push_statement};
 use dn_base::Memory;
 use rv_isa::{AluOp, Cond, Instr, Reg, Width, decode, encode};
-use text_pieces::push;
+use text_pieces::{push, push_hexadecimal};
 
 fn branch_word(cond: Cond) -> &'static [u8]
     ensures { result.now ≡ branch_word cond }
@@ -173,5 +173,16 @@ pub(crate) fn push_code(out: &mut Vec<u8>, word: u32) -> Result<(), Memory>
     ensures { OnOk result (out.new.items ≡ out.old.items ++ ended (code_line word)) }
 {
     push_code_word(out, word)?;
+    push(out, b"\n")
+}
+
+/// Adds the line of a code word, with its address as a comment.
+#[tactic(auto, unfolding(crate::specs::Instruction::addressed_line))]
+pub(crate) fn push_addressed_code(out: &mut Vec<u8>, address: u32, word: u32) -> Result<(), Memory>
+    ensures { OnOk result (out.new.items ≡ out.old.items ++ ended (addressed_line address word)) }
+{
+    push_code_word(out, word)?;
+    push(out, b"  # ")?;
+    push_hexadecimal(out, address)?;
     push(out, b"\n")
 }

@@ -7,4 +7,4 @@ mod statement;
 mod writing;
 
 pub use instruction::push_code_word;
-pub use writing::listing;
+pub use writing::{listing, listing_with_addresses};

@@ -1,5 +1,5 @@
 //! The listing of a program.
-ghost use Rattle.std.specs.Prelude.{◌≡◌, ℕ, ◌++◌, ◌+◌, ◌^◌, ◌<◌, ◌≤◌, [], ◌∷◌, codes, length, map, flat_map, Ok, IfOk, OnOk};
+ghost use Rattle.std.specs.Prelude.{◌≡◌, ℕ, ◌++◌, ◌+◌, ◌*◌, ◌^◌, ◌<◌, ◌≤◌, [], ◌∷◌, codes, length, map, flat_map, Ok, IfOk, OnOk};
 ghost use Rattle.std.specs.Fmt.{decimal};
 ghost use Rattle.std.specs.List.{All};
 ghost use Rattle.src_text.specs.Laws.{ended};
@@ -8,13 +8,13 @@ ghost use Rattle.rv_assembler.specs.Source.{source};
 ghost use Rattle.rv_listing.specs.Statement.{hexadecimal, statement};
 ghost use Rattle.rv_listing.specs.Instruction.{code_line};
 ghost use Rattle.rv_listing.specs.Law.{AreCodeWords, AreDeclaredNames, HasWords, IsOfWords, FitsSourceLimits};
-ghost use Rattle.rv_listing.specs.Listing.{text_of, version_lines, region_line, value_line, value_lines, region_values, lock_line, task_line, task_lines, phase_lines, listed_lines, listing_of};
+ghost use Rattle.rv_listing.specs.Listing.{addressed_lines, code_lines, lines_with, listing_with_addresses, text_of, version_lines, region_line, value_line, value_lines, region_values, lock_line, task_line, task_lines, phase_lines, listed_lines, listing_of};
 
 use crate::effects::push_effects;
-use crate::instruction::push_code;
+use crate::instruction::{push_addressed_code, push_code};
 use crate::statement::{Operand, push_line};
 use dn_base::{MOST_WORDS, Memory, Name};
-use region_table::{Phase, Program, Region, TaskDecl};
+use region_table::{FIRST_CODE_ADDRESS, Phase, Program, Region, TaskDecl};
 use std::alloc::Global;
 
 /// The greatest number of regions of a text of version 1.
@@ -204,10 +204,36 @@ fn push_words(out: &mut Vec<u8>, code: &[u32]) -> Result<(), Memory>
     Ok(())
 }
 
+/// Adds the lines of code words that follow each other from an address on, each with its address.
+fn push_addressed(out: &mut Vec<u8>, first: u32, code: &[u32]) -> Result<(), Memory>
+    requires { first + 4 * length code.now ≤ 4294967295 }
+    ensures lines { OnOk result (out.new.items ≡ out.old.items ++ text_of (addressed_lines first code.now)) }
+    ensures words { IfOk result (λ _. AreCodeWords code.now) }
+{
+    let mut address = first;
+    for word in code {
+        push_addressed_code(out, address, *word)?;
+        address += 4;
+    }
+    Ok(())
+}
+
+/// Adds the lines of the code, with addresses or without.
+fn push_code_lines(out: &mut Vec<u8>, code: &[u32], addresses: bool) -> Result<(), Memory>
+    requires { length code.now ≤ 16384 }
+    ensures lines { OnOk result (out.new.items ≡ out.old.items ++ text_of (code_lines addresses code.now)) }
+    ensures words { IfOk result (λ _. AreCodeWords code.now) }
+{
+    if addresses {
+        push_addressed(out, FIRST_CODE_ADDRESS, code)
+    } else {
+        push_words(out, code)
+    }
+}
+
 /// The text of a program that is well formed, with numbers of 32 bits and canonical sets of words.
-#[tactic(auto, unfolding(crate::specs::Listing::listed_lines))]
-fn program_text(alloc: Global, program: &Program) -> Result<Vec<u8>, Memory>
-    ensures text { IfOk result (λ text. text.items ≡ listing_of program.now) }
+fn program_text(alloc: Global, program: &Program, addresses: bool) -> Result<Vec<u8>, Memory>
+    ensures text { IfOk result (λ text. text.items ≡ text_of (lines_with (code_lines addresses program.now.code) program.now)) }
     ensures well_formed { IfOk result (λ _. IsProgram program.now) }
     ensures words { IfOk result (λ _. HasWords program.now) }
 {
@@ -219,7 +245,7 @@ fn program_text(alloc: Global, program: &Program) -> Result<Vec<u8>, Memory>
     push_values(&mut out, regions, program.memory.as_slice())?;
     push_locks(&mut out, locks)?;
     push_phases(&mut out, regions, locks, program.phases.as_slice())?;
-    push_words(&mut out, program.code.as_slice())?;
+    push_code_lines(&mut out, program.code.as_slice(), addresses)?;
     Ok(out)
 }
 
@@ -235,10 +261,22 @@ fn program_text(alloc: Global, program: &Program) -> Result<Vec<u8>, Memory>
 ///
 /// # Errors
 /// `Memory` where there is no room for the text.
+#[tactic(auto, unfolding(crate::specs::Listing::listed_lines))]
 pub fn listing(alloc: Global, program: &Program) -> Result<Vec<u8>, Memory>
     ensures text { IfOk result (λ text. text.items ≡ listing_of program.now) }
     ensures again { AreDeclaredNames (names_of program.now) → FitsSourceLimits (listed_lines program.now) → IfOk result (λ text. source text.items ≡ Ok program.now) }
 {
-    let text = program_text(alloc, program)?;
+    let text = program_text(alloc, program, false)?;
     Ok(text)
+}
+
+/// The listing of a program, with the address of each code word behind its line, as a comment: `lw x6, 0(x5)  # 0x00001008`.
+///
+/// # Errors
+/// `Memory` where there is no room for the text.
+#[tactic(auto, unfolding(crate::specs::Listing::listed_lines_with_addresses))]
+pub fn listing_with_addresses(alloc: Global, program: &Program) -> Result<Vec<u8>, Memory>
+    ensures { IfOk result (λ text. text.items ≡ listing_with_addresses program.now) }
+{
+    program_text(alloc, program, true)
 }

@@ -10,7 +10,7 @@ use Rattle.std.specs.List.{list_any}
 use Rattle.dn_machine.specs.declared.record.RunRecord.{RunRecord}
 use Rattle.sweep_top.specs.declared.counts.AnswerCount.{AnswerCount}
 use Rattle.sweep_top.specs.AnswerLaws.{answers_of, AreTheAnswers, IsCountOf}
-use Rattle.sweep_top.specs.Tally.{CountedAnswer, answer_of_run, came_again, tallied, counted_from, counted_once, different_answers}
+use Rattle.sweep_top.specs.Tally.{CountedAnswer, compared_answer, came_again, tallied, counted_from, counted_once, different_answers}
 
 same-from_eq : (s t : List ℕ) → bytes_eq s t ≡ true → s ≡ t
 same-from_eq s t = (bytes_eq-Decides s t).0
@@ -40,21 +40,21 @@ module _ {X : Type 0} where
 
 -- ---- one more run
 
-module _ (first : ℕ) (rs : List RunRecord) (r : RunRecord) where
+module _ (retired : Bool) (first : ℕ) (rs : List RunRecord) (r : RunRecord) where
   abbrev t : List ℕ
-  t = answer_of_run r
+  t = compared_answer retired r
 
   abbrev once : AnswerCount
   once = counted_once (first + length rs) r
 
   abbrev is_own : List ℕ → RunRecord → Bool
-  is_own text q = bytes_eq (answer_of_run q) text
+  is_own text q = bytes_eq (compared_answer retired q) text
 
   count-more : (text : List ℕ) → count_by (is_own text) (rs ++ r ∷ []) ≡ count_by (is_own text) rs + cond (bytes_eq t text) 1 0
   count-more text = sum_by_push (λ (q : RunRecord). cond (is_own text q) 1 0) rs r
 
   -- an answer that the run doesn't have
-  stays : (e : CountedAnswer) → IsCountOf first rs e → t ≢ e.0 → IsCountOf first (rs ++ r ∷ []) e
+  stays : (e : CountedAnswer) → IsCountOf retired first rs e → t ≢ e.0 → IsCountOf retired first (rs ++ r ∷ []) e
   stays e k other =
       record {
         before = k.before;
@@ -66,11 +66,11 @@ module _ (first : ℕ) (rs : List RunRecord) (r : RunRecord) where
         least = k.least;
         count = let differs = eq-false t e.0 other in let more = count-more e.0 ∙ ap (λ (b : Bool). count_by (is_own e.0) rs + cond b 1 0) differs in omega (arith, k.count, more);
         outcome = k.outcome;
-        retired = k.retired;
+        instructions = k.instructions;
       }
 
   -- the answer that it has too
-  grows : (e : CountedAnswer) → IsCountOf first rs e → bytes_eq t e.0 ≡ true → IsCountOf first (rs ++ r ∷ []) (e.0, came_again e.1)
+  grows : (e : CountedAnswer) → IsCountOf retired first rs e → bytes_eq t e.0 ≡ true → IsCountOf retired first (rs ++ r ∷ []) (e.0, came_again e.1)
   grows e k same =
       record {
         before = k.before;
@@ -82,18 +82,18 @@ module _ (first : ℕ) (rs : List RunRecord) (r : RunRecord) where
         least = k.least;
         count = let more = count-more e.0 ∙ ap (λ (b : Bool). count_by (is_own e.0) rs + cond b 1 0) same in omega (arith, k.count, more);
         outcome = k.outcome;
-        retired = k.retired;
+        instructions = k.instructions;
       }
 
-  none-tallied : (text : List ℕ) (qs : List RunRecord) → All (λ (q : RunRecord). answer_of_run q ≢ text) qs → count_by (is_own text) qs ≡ 0
+  none-tallied : (text : List ℕ) (qs : List RunRecord) → All (λ (q : RunRecord). compared_answer retired q ≢ text) qs → count_by (is_own text) qs ≡ 0
   none-tallied text [] others = refl
   none-tallied text (q ∷ qs) others =
-      let differs = eq-false (answer_of_run q) text (head-all (λ (p : RunRecord). answer_of_run p ≢ text) q qs others) in
+      let differs = eq-false (compared_answer retired q) text (head-all (λ (p : RunRecord). compared_answer retired p ≢ text) q qs others) in
       sum_by-cons (λ (p : RunRecord). cond (is_own text p) 1 0) q qs ∙ ap (λ (b : Bool). cond b 1 0 + count_by (is_own text) qs) differs
-      ∙ ap (λ (n : ℕ). 0 + n) (none-tallied text qs (tail-all (λ (p : RunRecord). answer_of_run p ≢ text) q qs others))
+      ∙ ap (λ (n : ℕ). 0 + n) (none-tallied text qs (tail-all (λ (p : RunRecord). compared_answer retired p ≢ text) q qs others))
 
   -- an answer that no run before had
-  begins : All (λ (q : RunRecord). answer_of_run q ≢ t) rs → IsCountOf first (rs ++ r ∷ []) (t, once)
+  begins : All (λ (q : RunRecord). compared_answer retired q ≢ t) rs → IsCountOf retired first (rs ++ r ∷ []) (t, once)
   begins others =
       record {
         before = rs;
@@ -108,7 +108,7 @@ module _ (first : ℕ) (rs : List RunRecord) (r : RunRecord) where
             let more = count-more t ∙ ap (λ (b : Bool). count_by (is_own t) rs + cond b 1 0) yes in
             let none = none-tallied t rs others in omega (arith, more, none);
         outcome = refl;
-        retired = refl;
+        instructions = refl;
       }
 
   -- ---- the lists of counted answers
@@ -153,28 +153,28 @@ module _ (first : ℕ) (rs : List RunRecord) (r : RunRecord) where
         sum_by-cons (λ (d : CountedAnswer). d.1.runs) e (tallied t once es) ∙ ap (λ (n : ℕ). e.1.runs + n) rest ∙ omega arith
         ∙ sym (ap (λ (n : ℕ). n + 1) (sum_by-cons (λ (d : CountedAnswer). d.1.runs) e es))
 
-  each-stays : (es : List CountedAnswer) → All (IsCountOf first rs) es → All (λ (s : List ℕ). t ≢ s) (answers_of es) → All (IsCountOf first (rs ++ r ∷ [])) es
+  each-stays : (es : List CountedAnswer) → All (IsCountOf retired first rs) es → All (λ (s : List ℕ). t ≢ s) (answers_of es) → All (IsCountOf retired first (rs ++ r ∷ [])) es
   each-stays [] each others = λ i d within. absurd (omega (arith, within))
   each-stays (e ∷ es) each others =
-      All-cons (IsCountOf first (rs ++ r ∷ [])) e es (stays e (head-all (IsCountOf first rs) e es each) (head-all (λ (s : List ℕ). t ≢ s) e.0 (answers_of es) others))
-      (each-stays es (tail-all (IsCountOf first rs) e es each) (tail-all (λ (s : List ℕ). t ≢ s) e.0 (answers_of es) others))
+      All-cons (IsCountOf retired first (rs ++ r ∷ [])) e es (stays e (head-all (IsCountOf retired first rs) e es each) (head-all (λ (s : List ℕ). t ≢ s) e.0 (answers_of es) others))
+      (each-stays es (tail-all (IsCountOf retired first rs) e es each) (tail-all (λ (s : List ℕ). t ≢ s) e.0 (answers_of es) others))
 
-  each-again : (es : List CountedAnswer) → list_any (bytes_eq t) (answers_of es) ≡ true → All (IsCountOf first rs) es → AllPairs (λ (s u : List ℕ). s ≢ u) (answers_of es)
-      → All (IsCountOf first (rs ++ r ∷ [])) (tallied t once es)
+  each-again : (es : List CountedAnswer) → list_any (bytes_eq t) (answers_of es) ≡ true → All (IsCountOf retired first rs) es → AllPairs (λ (s u : List ℕ). s ≢ u) (answers_of es)
+      → All (IsCountOf retired first (rs ++ r ∷ [])) (tallied t once es)
   each-again [] there each apart = absurd (true≢false (sym there))
   each-again (e ∷ es) there each apart =
-      let here = head-all (IsCountOf first rs) e es each in
-      let later = tail-all (IsCountOf first rs) e es each in
+      let here = head-all (IsCountOf retired first rs) e es each in
+      let later = tail-all (IsCountOf retired first rs) e es each in
       by_test (bytes_eq t e.0) refl there here later (λ found. each-again es found later (tail-pairs (λ (s u : List ℕ). s ≢ u) e.0 (answers_of es) apart))
     where
-      by_test : (b : Bool) → bytes_eq t e.0 ≡ b → (b || list_any (bytes_eq t) (answers_of es)) ≡ true → IsCountOf first rs e → All (IsCountOf first rs) es
-          → (list_any (bytes_eq t) (answers_of es) ≡ true → All (IsCountOf first (rs ++ r ∷ [])) (tallied t once es))
-          → All (IsCountOf first (rs ++ r ∷ [])) (if b then (e.0, came_again e.1) ∷ es else e ∷ tallied t once es)
+      by_test : (b : Bool) → bytes_eq t e.0 ≡ b → (b || list_any (bytes_eq t) (answers_of es)) ≡ true → IsCountOf retired first rs e → All (IsCountOf retired first rs) es
+          → (list_any (bytes_eq t) (answers_of es) ≡ true → All (IsCountOf retired first (rs ++ r ∷ [])) (tallied t once es))
+          → All (IsCountOf retired first (rs ++ r ∷ [])) (if b then (e.0, came_again e.1) ∷ es else e ∷ tallied t once es)
       by_test true same found here later among =
           let others : All (λ (s : List ℕ). t ≢ s) (answers_of es) = subst (λ (u : List ℕ). All (λ (s : List ℕ). u ≢ s) (answers_of es)) (sym (same-from_eq t e.0 same)) (head-pairs (λ (s u : List ℕ). s ≢ u) e.0 (answers_of es) apart) in
-          All-cons (IsCountOf first (rs ++ r ∷ [])) (e.0, came_again e.1) es (grows e here same) (each-stays es later others)
+          All-cons (IsCountOf retired first (rs ++ r ∷ [])) (e.0, came_again e.1) es (grows e here same) (each-stays es later others)
       by_test false differs found here later among =
-          All-cons (IsCountOf first (rs ++ r ∷ [])) e (tallied t once es) (stays e here (other-from_false t e.0 differs)) (among found)
+          All-cons (IsCountOf retired first (rs ++ r ∷ [])) e (tallied t once es) (stays e here (other-from_false t e.0 differs)) (among found)
 
   -- where the answer isn't there
   all-others : (ss : List (List ℕ)) → list_any (bytes_eq t) ss ≡ false → All (λ (s : List ℕ). t ≢ s) ss
@@ -184,44 +184,44 @@ module _ (first : ℕ) (rs : List RunRecord) (r : RunRecord) where
     by_test true same bad among = absurd (true≢false bad)
     by_test false differs rest among = All-cons (λ (u : List ℕ). t ≢ u) s ss (other-from_false t s differs) (among rest)
 
-  seed-below : (e : CountedAnswer) → IsCountOf first rs e → e.1.seed < first + length rs
+  seed-below : (e : CountedAnswer) → IsCountOf retired first rs e → e.1.seed < first + length rs
   seed-below e k =
       let long : length rs ≡ length k.before + length (k.own ∷ k.behind) = ap length k.split ∙ length-append k.before (k.own ∷ k.behind) in
       omega (arith, k.seed, long)
 
-  step : (es : List CountedAnswer) → AreTheAnswers first rs es → AreTheAnswers first (rs ++ r ∷ []) (tallied t once es)
+  step : (es : List CountedAnswer) → AreTheAnswers retired first rs es → AreTheAnswers retired first (rs ++ r ∷ []) (tallied t once es)
   step es a = by_test (list_any (bytes_eq t) (answers_of es)) refl where
     total : (ds : List CountedAnswer) → sum_by (λ (e : CountedAnswer). e.1.runs) ds ≡ sum_by (λ (e : CountedAnswer). e.1.runs) es + 1 → sum_by (λ (e : CountedAnswer). e.1.runs) ds ≡ length (rs ++ r ∷ [])
     total ds one = one ∙ ap (λ (n : ℕ). n + 1) a.total ∙ sym (length-append rs (r ∷ []))
 
-    all-in : (ss : List (List ℕ)) → ((s : List ℕ) → Contains (answers_of es) s → Contains ss s) → Contains ss t → All (λ (q : RunRecord). Contains ss (answer_of_run q)) (rs ++ r ∷ [])
+    all-in : (ss : List (List ℕ)) → ((s : List ℕ) → Contains (answers_of es) s → Contains ss s) → Contains ss t → All (λ (q : RunRecord). Contains ss (compared_answer retired q)) (rs ++ r ∷ [])
     all-in ss wider has =
-        All-push (λ (q : RunRecord). Contains ss (answer_of_run q)) rs r (λ i d within. wider (answer_of_run (get_or rs i d)) (a.whole i d within)) has
+        All-push (λ (q : RunRecord). Contains ss (compared_answer retired q)) rs r (λ i d within. wider (compared_answer retired (get_or rs i d)) (a.whole i d within)) has
 
-    again : list_any (bytes_eq t) (answers_of es) ≡ true → AreTheAnswers first (rs ++ r ∷ []) (tallied t once es)
+    again : list_any (bytes_eq t) (answers_of es) ≡ true → AreTheAnswers retired first (rs ++ r ∷ []) (tallied t once es)
     again there =
         let texts = texts-again es there in
         record {
           each = each-again es there a.each a.different;
           whole =
-              subst (λ (ss : List (List ℕ)). All (λ (q : RunRecord). Contains ss (answer_of_run q)) (rs ++ r ∷ [])) (sym texts)
+              subst (λ (ss : List (List ℕ)). All (λ (q : RunRecord). Contains ss (compared_answer retired q)) (rs ++ r ∷ [])) (sym texts)
               (all-in (answers_of es) (λ s has. has) (Contains-from_any same-from_eq t (answers_of es) there));
           different = subst (λ (ss : List (List ℕ)). AllPairs (λ (s u : List ℕ). s ≢ u) ss) (sym texts) a.different;
           rising = subst (λ (ss : List ℕ). AllPairs (λ (s u : ℕ). s < u) ss) (sym (seeds-again es there)) a.rising;
           total = total (tallied t once es) (total-more es);
         }
 
-    anew : list_any (bytes_eq t) (answers_of es) ≡ false → AreTheAnswers first (rs ++ r ∷ []) (es ++ (t, once) ∷ [])
+    anew : list_any (bytes_eq t) (answers_of es) ≡ false → AreTheAnswers retired first (rs ++ r ∷ []) (es ++ (t, once) ∷ [])
     anew none =
         let absent = all-others (answers_of es) none in
-        let others : All (λ (q : RunRecord). answer_of_run q ≢ t) rs =
-        λ i d within. let other = All-contains (λ (s : List ℕ). t ≢ s) (answers_of es) (answer_of_run (get_or rs i d)) absent (a.whole i d within) in (λ same. other (sym same)) in
+        let others : All (λ (q : RunRecord). compared_answer retired q ≢ t) rs =
+        λ i d within. let other = All-contains (λ (s : List ℕ). t ≢ s) (answers_of es) (compared_answer retired (get_or rs i d)) absent (a.whole i d within) in (λ same. other (sym same)) in
         let texts : answers_of (es ++ (t, once) ∷ []) ≡ answers_of es ++ t ∷ [] = map-append (λ (e : CountedAnswer). e.0) es ((t, once) ∷ []) in
         let seeds : seeds_of (es ++ (t, once) ∷ []) ≡ seeds_of es ++ (first + length rs) ∷ [] = map-append (λ (e : CountedAnswer). e.1.seed) es ((t, once) ∷ []) in
         record {
-          each = All-push (IsCountOf first (rs ++ r ∷ [])) es (t, once) (each-stays es a.each absent) (begins others);
+          each = All-push (IsCountOf retired first (rs ++ r ∷ [])) es (t, once) (each-stays es a.each absent) (begins others);
           whole =
-              subst (λ (ss : List (List ℕ)). All (λ (q : RunRecord). Contains ss (answer_of_run q)) (rs ++ r ∷ [])) (sym texts)
+              subst (λ (ss : List (List ℕ)). All (λ (q : RunRecord). Contains ss (compared_answer retired q)) (rs ++ r ∷ [])) (sym texts)
               (all-in (answers_of es ++ t ∷ []) (λ s has. Contains-append_left (answers_of es) (t ∷ []) s has) (Contains-push (answers_of es) t));
           different =
               subst (λ (ss : List (List ℕ)). AllPairs (λ (s u : List ℕ). s ≢ u) ss) (sym texts)
@@ -233,22 +233,22 @@ module _ (first : ℕ) (rs : List RunRecord) (r : RunRecord) where
           total = total (es ++ (t, once) ∷ []) (sum_by_push (λ (e : CountedAnswer). e.1.runs) es (t, once));
         }
 
-    by_test : (b : Bool) → list_any (bytes_eq t) (answers_of es) ≡ b → AreTheAnswers first (rs ++ r ∷ []) (tallied t once es)
+    by_test : (b : Bool) → list_any (bytes_eq t) (answers_of es) ≡ b → AreTheAnswers retired first (rs ++ r ∷ []) (tallied t once es)
     by_test true there = again there
-    by_test false none = subst (λ (ds : List CountedAnswer). AreTheAnswers first (rs ++ r ∷ []) ds) (sym (tallied-new es none)) (anew none)
+    by_test false none = subst (λ (ds : List CountedAnswer). AreTheAnswers retired first (rs ++ r ∷ []) ds) (sym (tallied-new es none)) (anew none)
 
 -- ---- all runs
 
-steps : (first : ℕ) (done rs : List RunRecord) (es : List CountedAnswer) → AreTheAnswers first done es → AreTheAnswers first (done ++ rs) (counted_from es (first + length done) rs)
-steps first done [] es a = subst (λ (qs : List RunRecord). AreTheAnswers first qs es) (sym (append-nil done)) a
-steps first done (r ∷ rs) es a =
-    let next = tallied (answer_of_run r) (counted_once (first + length done) r) es in
+steps : (retired : Bool) (first : ℕ) (done rs : List RunRecord) (es : List CountedAnswer) → AreTheAnswers retired first done es → AreTheAnswers retired first (done ++ rs) (counted_from retired es (first + length done) rs)
+steps retired first done [] es a = subst (λ (qs : List RunRecord). AreTheAnswers retired first qs es) (sym (append-nil done)) a
+steps retired first done (r ∷ rs) es a =
+    let next = tallied (compared_answer retired r) (counted_once (first + length done) r) es in
     let seed : first + length (done ++ r ∷ []) ≡ first + length done + 1 = ap (λ (n : ℕ). first + n) (length-append done (r ∷ [])) ∙ omega arith in
-    subst (λ (qs : List RunRecord). AreTheAnswers first qs (counted_from next (first + length done + 1) rs)) (append_assoc done (r ∷ []) rs)
-    (subst (λ (n : ℕ). AreTheAnswers first ((done ++ r ∷ []) ++ rs) (counted_from next n rs)) seed (steps first (done ++ r ∷ []) rs next (step first done r es a)))
+    subst (λ (qs : List RunRecord). AreTheAnswers retired first qs (counted_from retired next (first + length done + 1) rs)) (append_assoc done (r ∷ []) rs)
+    (subst (λ (n : ℕ). AreTheAnswers retired first ((done ++ r ∷ []) ++ rs) (counted_from retired next n rs)) seed (steps retired first (done ++ r ∷ []) rs next (step retired first done r es a)))
 
-begun : (first : ℕ) → AreTheAnswers first [] []
-begun first =
+begun : (retired : Bool) (first : ℕ) → AreTheAnswers retired first [] []
+begun retired first =
     record {
       each = λ i d within. absurd (omega (arith, within));
       whole = λ i d within. absurd (omega (arith, within));
@@ -257,8 +257,8 @@ begun first =
       total = refl;
     }
 
-pub are-the-answers : (first : ℕ) (rs : List RunRecord) → AreTheAnswers first rs (different_answers first rs)
+pub are-the-answers : (retired : Bool) (first : ℕ) (rs : List RunRecord) → AreTheAnswers retired first rs (different_answers retired first rs)
 unfolding different_answers
-are-the-answers first rs =
+are-the-answers retired first rs =
     let here : first + 0 ≡ first = omega arith in
-    subst (λ (n : ℕ). AreTheAnswers first rs (counted_from [] n rs)) here (steps first [] rs [] (begun first))
+    subst (λ (n : ℕ). AreTheAnswers retired first rs (counted_from retired [] n rs)) here (steps retired first [] rs [] (begun retired first))

@@ -62,7 +62,7 @@ row-of-denovo o text out seed (inl h) done csv asked =
     let count = h.holds.are.count in
     let k = row-at h.program o o.seeds.first h.holds.runs seed h.holds.are.each asked.from' (omega (arith, asked.to', count)) in
     let bytes : out.bytes ≡ table_head ++ table_rows o.seeds.first h.holds.runs =
-    ap (λ (r : SweepReply). r.bytes) h.holds.answer ∙ ap (λ (f : Form). sweep_text f o.seeds.first h.holds.runs) csv ∙ in-table o.seeds.first h.holds.runs in
+    ap (λ (r : SweepReply). r.bytes) h.holds.answer ∙ ap (λ (f : Form). sweep_text f o.retired o.seeds.first h.holds.runs) csv ∙ in-table o.seeds.first h.holds.runs in
     record {
       said = output_of_run (reported k.run) k.run;
       answer = inl (record { program = h.program; is = h.is; checked = h.checked; holds = record { run = k.run; is = k.is; answer = refl } });

@@ -25,7 +25,7 @@ use Rattle.sweep_top.specs.Checksum.{checksum}
 use Rattle.sweep_top.specs.Kept.{summed_with, counted_answers, raised_count, widened, widened_each, with_outcome, AreAnswersWithin, AreOutcomesWithin, HasRunAdded, HasTallied, IsTallyOf, IsTallyWith, IsSeedWithin}
 use Rattle.sweep_top.specs.Runs.{options_at}
 use Rattle.sweep_top.proofs.RowLemmas.{runs-on}
-use Rattle.sweep_top.specs.Tally.{CountedAnswer, answer_of_run, came_again, tallied, counted_from, counted_once, different_answers, events_of_run, is_done, is_out_of_fuel, is_stuck_outcome, is_trapped_outcome, kind_of_runs, outcome_count, outcomes_of, retired_of_run, spread_of, summed_of}
+use Rattle.sweep_top.specs.Tally.{CountedAnswer, compared_answer, came_again, tallied, counted_from, counted_once, different_answers, events_of_run, is_done, is_out_of_fuel, is_stuck_outcome, is_trapped_outcome, kind_of_runs, outcome_count, outcomes_of, retired_of_run, spread_of, summed_of}
 
 -- ---- answers in a map
 
@@ -151,32 +151,32 @@ kinds-more rs r each =
 
 -- ---- one more answer
 
-counted_from-more : (es : List CountedAnswer) (seed : ℕ) (rs : List RunRecord) (r : RunRecord)
-    → counted_from es seed (rs ++ r ∷ []) ≡ tallied (answer_of_run r) (counted_once (seed + length rs) r) (counted_from es seed rs)
-counted_from-more es seed [] r = let here : seed ≡ seed + 0 = omega arith in ap (λ (n : ℕ). tallied (answer_of_run r) (counted_once n r) es) here
-counted_from-more es seed (q ∷ rs) r =
+counted_from-more : (retired : Bool) (es : List CountedAnswer) (seed : ℕ) (rs : List RunRecord) (r : RunRecord)
+    → counted_from retired es seed (rs ++ r ∷ []) ≡ tallied (compared_answer retired r) (counted_once (seed + length rs) r) (counted_from retired es seed rs)
+counted_from-more retired es seed [] r = let here : seed ≡ seed + 0 = omega arith in ap (λ (n : ℕ). tallied (compared_answer retired r) (counted_once n r) es) here
+counted_from-more retired es seed (q ∷ rs) r =
     let here : seed + 1 + length rs ≡ seed + length (q ∷ rs) = omega arith in
-    let before = tallied (answer_of_run q) (counted_once seed q) es in
-    counted_from-more before (seed + 1) rs r
-    ∙ ap (λ (n : ℕ). tallied (answer_of_run r) (counted_once n r) (counted_from before (seed + 1) rs)) here
+    let before = tallied (compared_answer retired q) (counted_once seed q) es in
+    counted_from-more retired before (seed + 1) rs r
+    ∙ ap (λ (n : ℕ). tallied (compared_answer retired r) (counted_once n r) (counted_from retired before (seed + 1) rs)) here
 
-pub answers-more : (first : ℕ) (rs : List RunRecord) (r : RunRecord)
-    → different_answers first (rs ++ r ∷ []) ≡ tallied (answer_of_run r) (counted_once (first + length rs) r) (different_answers first rs)
+pub answers-more : (retired : Bool) (first : ℕ) (rs : List RunRecord) (r : RunRecord)
+    → different_answers retired first (rs ++ r ∷ []) ≡ tallied (compared_answer retired r) (counted_once (first + length rs) r) (different_answers retired first rs)
 unfolding different_answers
-answers-more first rs r = counted_from-more [] first rs r
+answers-more retired first rs r = counted_from-more retired [] first rs r
 
 -- ---- one more run
 
-pub tally-more : (first : ℕ) (rs : List RunRecord) (r : RunRecord) (old new : Tally) → IsTallyOf first rs old → IsTallyWith (first + length rs) r old new → IsTallyOf first (rs ++ r ∷ []) new
-tally-more first rs r old new is w =
+pub tally-more : (retired : Bool) (first : ℕ) (rs : List RunRecord) (r : RunRecord) (old new : Tally) → IsTallyOf retired first rs old → IsTallyWith retired (first + length rs) r old new → IsTallyOf retired first (rs ++ r ∷ []) new
+tally-more retired first rs r old new is w =
     let long : length (rs ++ r ∷ []) ≡ length rs + 1 = length-append rs (r ∷ []) in
     record {
       runs = w.runs ∙ ap (λ (n : ℕ). n + 1) is.runs ∙ sym long;
       outcomes = w.outcomes ∙ ap (λ (c : OutcomeCounts). with_outcome c r.ending.outcome) is.outcomes ∙ sym (outcomes_of-more rs r);
-      retired = w.retired ∙ more retired_of_run old.retired is.retired;
+      sum = w.sum ∙ more retired_of_run old.retired is.sum;
       events = w.events ∙ more events_of_run old.events is.events;
       kinds = w.kinds ∙ ap (λ (n : ℕ). widened_each n old.kinds r.counts.kinds) is.runs ∙ ap (λ (qs : List Spread). widened_each (length rs) qs r.counts.kinds) is.kinds ∙ kinds-more rs r w.each_kind;
-      answers = w.answers ∙ ap (λ (es : List CountedAnswer). tallied (answer_of_run r) (counted_once (first + length rs) r) es) is.answers ∙ sym (answers-more first rs r);
+      answers = w.answers ∙ ap (λ (es : List CountedAnswer). tallied (compared_answer retired r) (counted_once (first + length rs) r) es) is.answers ∙ sym (answers-more retired first rs r);
       grants = w.grants ∙ ap (λ (xs : List ℕ). xs ++ checksum (grant_lines r.grants) ∷ []) is.grants ∙ sym (map-append (λ (q : RunRecord). checksum (grant_lines q.grants)) rs (r ∷ []));
     }
   where
@@ -184,13 +184,13 @@ tally-more first rs r old new is w =
     more f s same =
         rw (same, is.runs, map-append f rs (r ∷ []), summed_of-more (map f rs) (f r), length-map rs f) refl
 
-pub within-more : (seed : ℕ) (r : RunRecord) (old new : Tally) → IsSeedWithin old → IsTallyWith seed r old new → IsSeedWithin new
-within-more seed r old new within w =
+pub within-more : (retired : Bool) (seed : ℕ) (r : RunRecord) (old new : Tally) → IsSeedWithin old → IsTallyWith retired seed r old new → IsSeedWithin new
+within-more retired seed r old new within w =
     record {
       outcomes = rw (w.runs, w.outcomes) (outcomes-within old.runs old.outcomes r.ending.outcome within.outcomes);
-      retired = rw (w.runs, w.retired) (omega (arith, within.retired, w.retired_within));
+      retired = rw (w.runs, w.sum) (omega (arith, within.retired, w.sum_within));
       events = rw (w.runs, w.events) (omega (arith, within.events, w.events_within));
-      answers = rw (w.runs, w.answers) (within-tallied old.runs (answer_of_run r) (counted_once seed r) (counted_answers old.answers.entries) refl within.answers);
+      answers = rw (w.runs, w.answers) (within-tallied old.runs (compared_answer retired r) (counted_once seed r) (counted_answers old.answers.entries) refl within.answers);
     }
 
 -- ---- the loop over the kinds
@@ -220,9 +220,9 @@ pub kinds-none : (q : Spread) → q ≡ spread_of [] → for_each_kind q ≡ map
 unfolding all_kinds
 kinds-none q is = ap for_each_kind is
 
-pub answers-none : {A : Type 0} (first : ℕ) (es : List (Vec ℕ A × AnswerCount)) → es ≡ [] → counted_answers es ≡ different_answers first []
+pub answers-none : {A : Type 0} (retired : Bool) (first : ℕ) (es : List (Vec ℕ A × AnswerCount)) → es ≡ [] → counted_answers es ≡ different_answers retired first []
 unfolding different_answers
-answers-none {A} first es is = ap (λ (ds : List (Vec ℕ A × AnswerCount)). counted_answers ds) is
+answers-none {A} retired first es is = ap (λ (ds : List (Vec ℕ A × AnswerCount)). counted_answers ds) is
 
 pub within-raised : (n m : ℕ) (es : List CountedAnswer) → n ≤ m → AreAnswersWithin n es → AreAnswersWithin m es
 within-raised n m [] less within = tt
@@ -238,8 +238,8 @@ module _ (P : ProgramParts) (o : SweepOptions) where
         runs = h.runs ++ k.run ∷ [];
         each = runs-on P o first h.runs k.run h.each (subst (λ (n : ℕ). IsRunFor P (options_at o n) k.run) (sym h.count) k.is);
         count = omega (arith, long, h.count);
-        is = tally-more first h.runs k.run old new h.is (subst (λ (n : ℕ). IsTallyWith n k.run old new) (sym h.count) k.summed_with);
-        within = within-more next k.run old new h.within k.summed_with;
+        is = tally-more o.retired first h.runs k.run old new h.is (subst (λ (n : ℕ). IsTallyWith o.retired n k.run old new) (sym h.count) k.summed_with);
+        within = within-more o.retired next k.run old new h.within k.summed_with;
       }
 
   -- the same of the last run, if it was taken in

@@ -1,5 +1,5 @@
 -- What is printed of a tally is what is printed of its runs.
-use Rattle.std.proofs.Common.{◌≡◌, ℕ, ◌+◌, List, [], ◌∷◌, ◌++◌, length, map, get_or, flat_map, Vec, Result, Ok, Err, IfOk, refl, sym, ap, ◌∙◌}
+use Rattle.std.proofs.Common.{◌≡◌, ℕ, Bool, ◌+◌, List, [], ◌∷◌, ◌++◌, length, map, get_or, flat_map, Vec, Result, Ok, Err, IfOk, refl, sym, ap, ◌∙◌}
 use Rattle.std.proofs.lemmas.List.{length-map}
 use Rattle.message_net.specs.declared.event.EventKind as kind
 use Rattle.message_net.specs.declared.event.EventKind.{EventKind}
@@ -49,23 +49,23 @@ lines-of_kinds f (k ∷ ks) =
 length-counted_answers : {A : Type 0} (es : List (Vec ℕ A × AnswerCount)) → length (counted_answers es) ≡ length es
 length-counted_answers {A} es = length-map es (λ (e : Vec ℕ A × AnswerCount). (e.0.items, e.1))
 
-pub summary-of_tally : (first : ℕ) (rs : List RunRecord) (t : Tally) → IsTallyOf first rs t → tally_summary t ≡ runs_summary first rs
+pub summary-of_tally : (retired : Bool) (first : ℕ) (rs : List RunRecord) (t : Tally) → IsTallyOf retired first rs t → tally_summary t ≡ runs_summary retired first rs
 unfolding tally_summary runs_summary
-summary-of_tally first rs t is =
-    let answers : length t.answers.entries ≡ length (different_answers first rs) = sym (length-counted_answers t.answers.entries) ∙ ap length is.answers in
-    rw (is.runs, is.outcomes, answers, is.grants, is.retired, is.events, is.kinds, lines-of_kinds (λ (k : EventKind). spread_of (kind_of_runs rs k)) all_kinds) refl
+summary-of_tally retired first rs t is =
+    let answers : length t.answers.entries ≡ length (different_answers retired first rs) = sym (length-counted_answers t.answers.entries) ∙ ap length is.answers in
+    rw (is.runs, is.outcomes, answers, is.grants, is.sum, is.events, is.kinds, lines-of_kinds (λ (k : EventKind). spread_of (kind_of_runs rs k)) all_kinds) refl
 
-answers-of_tally : (first : ℕ) (rs : List RunRecord) (t : Tally) → IsTallyOf first rs t → answers_head ++ flat_map answer_row (counted_answers t.answers.entries) ≡ answers_table first rs
+answers-of_tally : (retired : Bool) (first : ℕ) (rs : List RunRecord) (t : Tally) → IsTallyOf retired first rs t → answers_head ++ flat_map answer_row (counted_answers t.answers.entries) ≡ answers_table retired first rs
 unfolding answers_table
-answers-of_tally first rs t is = ap (λ (es : List CountedAnswer). answers_head ++ flat_map answer_row es) is.answers
+answers-of_tally retired first rs t is = ap (λ (es : List CountedAnswer). answers_head ++ flat_map answer_row es) is.answers
 
 module _ (P : ProgramParts) (o : SweepOptions) where
   pub summed-up : (t : Tally) (text : List ℕ) → HasTallied P o o.seeds.first (o.seeds.last + 1) t → text ≡ tally_summary t → IsTextOfRuns P o Summary text
-  summed-up t text h is = record { runs = h.runs; are = record { each = h.each; count = h.count }; is = is ∙ summary-of_tally o.seeds.first h.runs t h.is }
+  summed-up t text h is = record { runs = h.runs; are = record { each = h.each; count = h.count }; is = is ∙ summary-of_tally o.retired o.seeds.first h.runs t h.is }
 
   pub answers-listed : (t : Tally) (text : List ℕ) → HasTallied P o o.seeds.first (o.seeds.last + 1) t → text ≡ answers_head ++ flat_map answer_row (counted_answers t.answers.entries)
       → IsTextOfRuns P o Answers text
-  answers-listed t text h is = record { runs = h.runs; are = record { each = h.each; count = h.count }; is = is ∙ answers-of_tally o.seeds.first h.runs t h.is }
+  answers-listed t text h is = record { runs = h.runs; are = record { each = h.each; count = h.count }; is = is ∙ answers-of_tally o.retired o.seeds.first h.runs t h.is }
 
   pub runs-listed : (text : List ℕ) → HasRunRows P o o.seeds.first (o.seeds.last + 1) table_head text → IsTextOfRuns P o Csv text
   unfolding runs_table

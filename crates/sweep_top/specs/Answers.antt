@@ -1,5 +1,5 @@
 -- The program's answer to options and a text.
-use Rattle.std.specs.Prelude.{◌≡◌, ◌⊎◌, ℕ, List}
+use Rattle.std.specs.Prelude.{◌≡◌, ◌⊎◌, ℕ, Bool, List}
 use Rattle.region_table.specs.Program.{ProgramParts}
 use Rattle.run_report.specs.Texts.{HasChecked, IsUnfit}
 use Rattle.dn_machine.specs.declared.record.RunRecord.{RunRecord}
@@ -18,17 +18,17 @@ use Rattle.sweep_top.specs.Table.{runs_table}
 abbrev pub SweepReply : Type 0
 SweepReply = Output SweepStatus
 
--- what is printed of the runs of the seeds from the first one on
-abbrev pub sweep_text : Form → ℕ → List RunRecord → List ℕ
-sweep_text form.TheVariants.Summary first runs = runs_summary first runs
-sweep_text form.TheVariants.Answers first runs = answers_table first runs
-sweep_text form.TheVariants.Csv first runs = runs_table first runs
+-- what is printed of the runs of the seeds from the first one on; answers are compared with their counts of instructions or without
+abbrev pub sweep_text : Form → (retired : Bool) → ℕ → List RunRecord → List ℕ
+sweep_text form.TheVariants.Summary retired first runs = runs_summary retired first runs
+sweep_text form.TheVariants.Answers retired first runs = answers_table retired first runs
+sweep_text form.TheVariants.Csv retired first runs = runs_table first runs
 
 -- the program was run by each seed that is asked for, and this is what is printed of the runs in a form
 pub record IsTextOfRuns (P : ProgramParts) (o : SweepOptions) (f : Form) (text : List ℕ) : Type 0 where
   pub runs : List RunRecord
   pub are : AreRunsOf P o runs
-  pub is : text ≡ sweep_text f o.seeds.first runs
+  pub is : text ≡ sweep_text f o.retired o.seeds.first runs
 
 abbrev pub swept : List ℕ → SweepReply
 swept text = record { status = status.TheVariants.Swept; bytes = text }
@@ -37,7 +37,7 @@ swept text = record { status = status.TheVariants.Swept; bytes = text }
 pub record IsSweepOf (P : ProgramParts) (o : SweepOptions) (out : SweepReply) : Type 0 where
   pub runs : List RunRecord
   pub are : AreRunsOf P o runs
-  pub answer : out ≡ swept (sweep_text o.form o.seeds.first runs)
+  pub answer : out ≡ swept (sweep_text o.form o.retired o.seeds.first runs)
 
 -- a text that is refused, with the line with which denovo refuses it
 pub record IsSweepRefused (text : List ℕ) (out : SweepReply) : Type 0 where

@@ -5,7 +5,7 @@ use Rattle.std.specs.List.{position_or_len, before_first, after_first}
 use Rattle.clap.specs.Walk.{Row, Text, first_of}
 use Rattle.clap.specs.Simple.{App, new_app, with_rule}
 use Rattle.program_outside.specs.Numbers.{number_in_text}
-use Rattle.program_outside.specs.Words.{bare, faults_in, number_in, number_rule, text_rule, values_in, where_taken}
+use Rattle.program_outside.specs.Words.{bare, faults_in, number_in, number_rule, switch_in, text_rule, values_in, where_taken}
 use Rattle.sweep_top.specs.declared.options.Form.{Form}
 use Rattle.sweep_top.specs.declared.options.Form as form
 use Rattle.sweep_top.specs.declared.options.Seeds.{Seeds}
@@ -14,12 +14,13 @@ use Rattle.sweep_top.specs.declared.options.TheConstants.{MOST_SEEDS}
 
 -- ---- the command
 
--- the command `sweep` with its six options
+-- the command `sweep` with its seven options
 unfoldable pub sweep_command : App
 sweep_command =
-    with_rule (with_rule (with_rule (with_rule (with_rule (with_rule (bare (new_app (codes "sweep")))
+    with_rule (with_rule (with_rule (with_rule (with_rule (with_rule (with_rule (bare (new_app (codes "sweep")))
     (text_rule (codes "seeds") (codes "1..1000")))
     (text_rule (codes "form") (codes "summary")))
+    (text_rule (codes "retired") (codes "on")))
     (number_rule (codes "banks") (codes "4")))
     (number_rule (codes "sets") (codes "64")))
     (number_rule (codes "ways") (codes "4")))
@@ -68,15 +69,17 @@ unfoldable pub sweep_from : List Row → Option SweepOptions
 sweep_from rows =
     option_and_then (λ (seeds : Seeds).
     option_and_then (λ (form : Form).
+    option_and_then (λ (retired : Bool).
     option_and_then (λ (banks : ℕ).
     option_and_then (λ (sets : ℕ).
     option_and_then (λ (ways : ℕ).
     option_and_then (λ (fuel : ℕ).
-    Some (record { seeds = seeds; form = form; banks = banks; sets = sets; ways = ways; fuel = fuel }))
+    Some (record { seeds = seeds; form = form; retired = retired; banks = banks; sets = sets; ways = ways; fuel = fuel }))
     (number_in rows (codes "fuel") 1 32768))
     (number_in rows (codes "ways") 1 16))
     (number_in rows (codes "sets") 1 256))
     (number_in rows (codes "banks") 1 16))
+    (switch_in rows (codes "retired")))
     (sweep_form_in rows))
     (seeds_in rows)
 

@@ -1,5 +1,5 @@
 -- What is kept of the runs that were made: how it grows by each of them.
-use Rattle.std.specs.Prelude.{◌≡◌, ℕ, ◌+◌, ◌*◌, ◌==◌, ◌≤◌, min, max, List, [], ◌∷◌, ◌++◌, length, map, flat_map, nat_eq, slice_index_or, codes, Vec, Option, Some, None, if◌then◌else◌}
+use Rattle.std.specs.Prelude.{◌≡◌, ℕ, Bool, ◌+◌, ◌*◌, ◌==◌, ◌≤◌, min, max, List, [], ◌∷◌, ◌++◌, length, map, flat_map, nat_eq, slice_index_or, codes, Vec, Option, Some, None, if◌then◌else◌}
 use Rattle.std.specs.Set.{distinct_count}
 use Rattle.dn_base.specs.declared.status.Outcome as outcome
 use Rattle.dn_base.specs.declared.status.Outcome.{Outcome}
@@ -20,7 +20,7 @@ use Rattle.sweep_top.specs.declared.tally.Tally.{Tally}
 use Rattle.sweep_top.specs.Checksum.{checksum}
 use Rattle.sweep_top.specs.Summary.{kind_spread_line, outcome_lines, summed_line}
 use Rattle.sweep_top.specs.Runs.{options_at, AreRunsFrom}
-use Rattle.sweep_top.specs.Tally.{CountedAnswer, answer_of_run, counted_once, came_again, tallied, different_answers, outcomes_of, spread_of, summed_of, retired_of_run, events_of_run, kind_of_runs, grant_checksums}
+use Rattle.sweep_top.specs.Tally.{CountedAnswer, compared_answer, counted_once, came_again, tallied, different_answers, outcomes_of, spread_of, summed_of, retired_of_run, events_of_run, kind_of_runs, grant_checksums}
 
 -- ---- one more number
 
@@ -79,33 +79,33 @@ pub record IsSeedWithin (t : Tally) : Type 0 where
   pub events : IsSumWithin t.runs t.events.sum
   pub answers : AreAnswersWithin t.runs (counted_answers t.answers.entries)
 
--- the tally has one more run, that of the seed
-pub record IsTallyWith (seed : ℕ) (r : RunRecord) (old new : Tally) : Type 0 where
+-- the tally has one more run, that of the seed; its answer is compared with its counts of instructions or without them
+pub record IsTallyWith (retired : Bool) (seed : ℕ) (r : RunRecord) (old new : Tally) : Type 0 where
   pub runs : new.runs ≡ old.runs + 1
   pub outcomes : new.outcomes ≡ with_outcome old.outcomes r.ending.outcome
-  pub retired : new.retired ≡ summed_with old.runs old.retired (retired_of_run r)
-  pub retired_within : retired_of_run r ≤ 18446744073709551615
+  pub sum : new.retired ≡ summed_with old.runs old.retired (retired_of_run r)
+  pub sum_within : retired_of_run r ≤ 18446744073709551615
   pub events : new.events ≡ summed_with old.runs old.events (events_of_run r)
   pub events_within : events_of_run r ≤ 18446744073709551615
   pub kinds : new.kinds ≡ widened_each old.runs old.kinds r.counts.kinds
   pub each_kind : length r.counts.kinds ≡ 17
-  pub answers : counted_answers new.answers.entries ≡ tallied (answer_of_run r) (counted_once seed r) (counted_answers old.answers.entries)
+  pub answers : counted_answers new.answers.entries ≡ tallied (compared_answer retired r) (counted_once seed r) (counted_answers old.answers.entries)
   pub grants : new.grants.items ≡ old.grants.items ++ checksum (grant_lines r.grants) ∷ []
 
 -- the run of the seed was made, and the tally has it
 pub record HasRunAdded (P : ProgramParts) (o : SweepOptions) (seed : ℕ) (old new : Tally) : Type 0 where
   pub run : RunRecord
   pub is : IsRunFor P (options_at o seed) run
-  pub summed_with : IsTallyWith seed run old new
+  pub summed_with : IsTallyWith o.retired seed run old new
 
 -- the tally of these runs, whose seeds go on from the first one
-pub record IsTallyOf (first : ℕ) (rs : List RunRecord) (t : Tally) : Type 0 where
+pub record IsTallyOf (retired : Bool) (first : ℕ) (rs : List RunRecord) (t : Tally) : Type 0 where
   pub runs : t.runs ≡ length rs
   pub outcomes : t.outcomes ≡ outcomes_of rs
-  pub retired : t.retired ≡ summed_of (map retired_of_run rs)
+  pub sum : t.retired ≡ summed_of (map retired_of_run rs)
   pub events : t.events ≡ summed_of (map events_of_run rs)
   pub kinds : t.kinds ≡ map (λ (k : EventKind). spread_of (kind_of_runs rs k)) all_kinds
-  pub answers : counted_answers t.answers.entries ≡ different_answers first rs
+  pub answers : counted_answers t.answers.entries ≡ different_answers retired first rs
   pub grants : t.grants.items ≡ grant_checksums rs
 
 -- the runs of the seeds from `first` on, before `next`, were made, and the tally has them
@@ -113,7 +113,7 @@ pub record HasTallied (P : ProgramParts) (o : SweepOptions) (first next : ℕ) (
   pub runs : List RunRecord
   pub each : AreRunsFrom P o first runs
   pub count : first + length runs ≡ next
-  pub is : IsTallyOf first runs t
+  pub is : IsTallyOf o.retired first runs t
   pub within : IsSeedWithin t
 
 -- ---- its texts

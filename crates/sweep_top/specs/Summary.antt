@@ -1,5 +1,5 @@
 -- The summary of many runs.
-use Rattle.std.specs.Prelude.{ℕ, List, ◌++◌, length, map, nat_eq, codes, flat_map}
+use Rattle.std.specs.Prelude.{ℕ, Bool, List, ◌++◌, length, map, nat_eq, codes, flat_map}
 use Rattle.std.specs.Fmt.{decimal}
 use Rattle.std.specs.Set.{distinct_count}
 use Rattle.dn_base.specs.declared.status.Outcome as outcome
@@ -41,8 +41,8 @@ kind_lines runs = flat_map (λ (k : EventKind). kind_spread_line k (spread_of (k
 
 -- how many runs there are, how they ended, how many different answers and orders of grants they have, and the least and the most of
 -- their retired instructions and events. Orders of grants are different if their checksums are
-unfoldable pub runs_summary : ℕ → List RunRecord → List ℕ
-runs_summary first runs =
-    count_line (codes "runs ") (length runs) ++ outcome_lines (outcomes_of runs) ++ count_line (codes "answers ") (length (different_answers first runs))
+unfoldable pub runs_summary : (retired : Bool) → ℕ → List RunRecord → List ℕ
+runs_summary retired first runs =
+    count_line (codes "runs ") (length runs) ++ outcome_lines (outcomes_of runs) ++ count_line (codes "answers ") (length (different_answers retired first runs))
     ++ count_line (codes "grants ") (distinct_count nat_eq (grant_checksums runs)) ++ summed_line (codes "retired") (summed_of (map retired_of_run runs))
     ++ summed_line (codes "events") (summed_of (map events_of_run runs)) ++ kind_lines runs

@@ -4,7 +4,7 @@ use Rattle.dn_base.specs.declared.status.Outcome as outcome
 use Rattle.dn_base.specs.declared.status.Outcome.{Outcome}
 use Rattle.message_net.specs.declared.event.EventKind.{EventKind}
 use Rattle.grant_log.specs.Counts.{kind_count}
-use Rattle.run_report.specs.Answer.{answer_of}
+use Rattle.run_report.specs.Answer.{answer_of, answer_without_retired}
 use Rattle.run_report.specs.Grants.{grant_lines}
 use Rattle.run_report.specs.Summary.{retired_by_all}
 use Rattle.dn_machine.specs.declared.record.RunRecord.{RunRecord}
@@ -20,9 +20,10 @@ use Rattle.sweep_top.specs.Checksum.{checksum}
 abbrev pub CountedAnswer : Type 0
 CountedAnswer = List ℕ × AnswerCount
 
--- the answer of a run, as denovo prints it first
-abbrev pub answer_of_run : RunRecord → List ℕ
-answer_of_run r = answer_of r.ending
+-- the answer of a run as it is compared with others: as denovo prints it first, or without the counts of retired instructions
+abbrev pub compared_answer : (retired : Bool) → RunRecord → List ℕ
+compared_answer true r = answer_of r.ending
+compared_answer false r = answer_without_retired r.ending
 
 abbrev pub retired_of_run : RunRecord → ℕ
 retired_of_run r = retired_by_all r.ending.tasks
@@ -41,13 +42,13 @@ tallied text once [] = (text, once) ∷ []
 tallied text once (e ∷ es) = if bytes_eq text e.0 then (e.0, came_again e.1) ∷ es else e ∷ tallied text once es
 
 -- the counts after these runs, whose seeds go on from this one
-abbrev pub counted_from : List CountedAnswer → ℕ → List RunRecord → List CountedAnswer
-counted_from es seed [] = es
-counted_from es seed (r ∷ rs) = counted_from (tallied (answer_of_run r) (counted_once seed r) es) (seed + 1) rs
+abbrev pub counted_from : (retired : Bool) → List CountedAnswer → ℕ → List RunRecord → List CountedAnswer
+counted_from retired es seed [] = es
+counted_from retired es seed (r ∷ rs) = counted_from retired (tallied (compared_answer retired r) (counted_once seed r) es) (seed + 1) rs
 
 -- the different answers of the runs, whose seeds go on from `first`, in the order of their least seeds
-unfoldable pub different_answers : ℕ → List RunRecord → List CountedAnswer
-different_answers first runs = counted_from [] first runs
+unfoldable pub different_answers : (retired : Bool) → ℕ → List RunRecord → List CountedAnswer
+different_answers retired first runs = counted_from retired [] first runs
 
 -- ---- the outcomes
 

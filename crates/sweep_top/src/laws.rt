@@ -1,5 +1,5 @@
 //! Theorems of what is printed. A theorem is a function without effect; its contract states the theorem.
-ghost use Rattle.std.specs.Prelude.{◌≡◌, ℕ, List, ◌∷◌};
+ghost use Rattle.std.specs.Prelude.{◌≡◌, ℕ, Bool, List, ◌∷◌};
 ghost use Rattle.dn_machine.specs.declared.record.RunRecord.{RunRecord};
 ghost use Rattle.sweep_top.specs.declared.options.Form.TheVariants.{Csv};
 ghost use Rattle.sweep_top.specs.declared.options.SweepOptions.{SweepOptions};
@@ -18,9 +18,10 @@ pub fn each_row_is_of_the_run_that_denovo_prints()
 {}
 
 /// In the form answers each different answer of the runs has one row. It tells the least seed whose run has this answer, and how
-/// many of the runs have it; the rows stand in the order of their seeds, and the counts add up to the number of runs.
+/// many of the runs have it; the rows stand in the order of their seeds, and the counts add up to the number of runs. Answers are
+/// compared with their counts of retired instructions or without them, as it is asked for.
 pub fn each_answer_is_counted_once()
-    ensures { (first : ℕ) (runs : List RunRecord) → AreTheAnswers first runs (different_answers first runs) }
+    ensures { (retired : Bool) (first : ℕ) (runs : List RunRecord) → AreTheAnswers retired first runs (different_answers retired first runs) }
 {}
 
 /// The least and the most that the form summary prints of a number are the least and the most of this number in all runs.

@@ -25,6 +25,8 @@ pub struct Seeds {
 pub struct SweepOptions {
     pub seeds: Seeds,
     pub form: Form,
+    /// Whether answers that differ in nothing but counts of retired instructions are different.
+    pub retired: bool,
     /// Banks of the shared memory, from 1 to 16.
     pub banks: u32,
     /// Sets of a core's cache, from 1 to 256.

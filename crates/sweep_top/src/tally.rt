@@ -1,5 +1,5 @@
 //! What is kept of the runs of many seeds.
-ghost use Rattle.std.specs.Prelude.{◌≡◌, ℕ, ◌<◌, ◌+◌, [], ◌++◌, bytes_eq, IfOk, OnOk};
+ghost use Rattle.std.specs.Prelude.{◌≡◌, ℕ, Bool, ◌<◌, ◌+◌, [], ◌++◌, bytes_eq, IfOk, OnOk};
 ghost use Rattle.indexmap.specs.IndexMap.{get_by};
 ghost use Rattle.dn_machine.specs.Kept.{IsInitialMachine};
 ghost use Rattle.checked_runs.specs.Runs.{IsPrintable};
@@ -7,7 +7,7 @@ ghost use Rattle.dn_top.specs.Runs.{shape_for};
 ghost use Rattle.sweep_top.specs.Command.{AreSeeds};
 ghost use Rattle.sweep_top.specs.Kept.{counted_answers, raised_count, AreAnswersWithin, HasRunAdded, HasTallied, IsTallyOf, IsTallyWith, IsSeedWithin};
 ghost use Rattle.sweep_top.specs.Runs.{options_at};
-ghost use Rattle.sweep_top.specs.Tally.{tallied};
+ghost use Rattle.sweep_top.specs.Tally.{compared_answer, tallied};
 
 use crate::counts::{AnswerCount, OutcomeCounts};
 use crate::hashing::checksum;
@@ -17,7 +17,7 @@ use crate::spread::{Spread, Summed, widen_each};
 use dn_base::Memory;
 use dn_machine::{Machine, RunRecord};
 use indexmap::IndexMap;
-use run_report::{answer_text, event_count, grant_text, retired_by_all};
+use run_report::{answer_text, answer_text_without_retired, event_count, grant_text, retired_by_all};
 use std::alloc::Global;
 
 /// What is kept of the runs that were made. The text of an answer is kept once, however often it came.
@@ -36,6 +36,18 @@ pub struct Tally {
     pub answers: IndexMap<Vec<u8>, AnswerCount>,
     /// The checksum of each run's grants.
     pub grants: Vec<u64>,
+}
+
+/// The answer of a run as it is compared: with its counts of instructions, or without them.
+fn compared_answer(alloc: Global, retired: bool, run: &RunRecord) -> Result<Vec<u8>, Memory>
+    requires { IsPrintable run.now }
+    ensures { IfOk result (λ text. text.items ≡ compared_answer retired run.now) }
+{
+    if retired {
+        answer_text(alloc, &run.ending)
+    } else {
+        answer_text_without_retired(alloc, &run.ending)
+    }
 }
 
 /// The count of an answer after one more run has it.
@@ -70,7 +82,7 @@ fn count_answer(
 impl Tally {
     /// The tally of no run.
     pub(crate) fn new(alloc: Global) -> Tally
-        ensures tally { (first : ℕ) → IsTallyOf first [] result }
+        ensures tally { (retired : Bool) (first : ℕ) → IsTallyOf retired first [] result }
         ensures within { IsSeedWithin result }
     {
         Tally {
@@ -84,25 +96,31 @@ impl Tally {
         }
     }
 
-    /// Takes in the run of a seed.
-    pub(crate) fn add(&mut self, alloc: Global, seed: u32, run: &RunRecord) -> Result<(), Memory>
+    /// Takes in the run of a seed. Its answer is compared with its counts of instructions, or without them.
+    pub(crate) fn add(
+        &mut self,
+        alloc: Global,
+        retired: bool,
+        seed: u32,
+        run: &RunRecord,
+    ) -> Result<(), Memory>
         requires printable { IsPrintable run.now }
         requires runs { self.old.runs < 4294967295 }
         requires within { IsSeedWithin self.old }
-        ensures { OnOk result (IsTallyWith seed run.now self.old self.new) }
+        ensures { OnOk result (IsTallyWith retired seed run.now self.old self.new) }
     {
-        let retired = retired_by_all(run.ending.tasks.as_slice());
+        let instructions = retired_by_all(run.ending.tasks.as_slice());
         let once = AnswerCount {
             seed,
             runs: 1,
             outcome: run.ending.outcome,
-            retired,
+            retired: instructions,
         };
-        count_answer(&mut self.answers, answer_text(alloc, &run.ending)?, once)?;
+        count_answer(&mut self.answers, compared_answer(alloc, retired, run)?, once)?;
         let grants = grant_text(alloc, run.grants.as_slice())?;
         self.grants.push(checksum(grants.as_slice()))?;
         self.outcomes.add(run.ending.outcome);
-        self.retired = self.retired.with(self.runs, retired);
+        self.retired = self.retired.with(self.runs, instructions);
         self.events = self.events.with(self.runs, event_count(&run.counts.kinds));
         widen_each(&mut self.kinds, self.runs, &run.counts.kinds);
         self.runs += 1;
@@ -124,7 +142,7 @@ fn add_run(
     ensures { OnOk result (HasRunAdded machine.now.state.setting.program options.now seed tally.old tally.new) }
 {
     let run = run_of(alloc, options, machine, seed)?;
-    tally.add(alloc, seed, &run)
+    tally.add(alloc, options.retired, seed, &run)
 }
 
 /// Makes the runs of all these seeds, and takes them in.
@@ -137,7 +155,7 @@ fn add_runs(
 ) -> Result<(), Memory>
     requires seeds { AreSeeds seeds }
     requires machine { IsInitialMachine machine.now.state.setting.program (shape_for machine.now.state.setting.program (options_at options.now 0)) options.now.fuel machine.now }
-    requires new { IsTallyOf seeds.first [] tally.old }
+    requires new { IsTallyOf options.now.retired seeds.first [] tally.old }
     requires within { IsSeedWithin tally.old }
     ensures { OnOk result (HasTallied machine.now.state.setting.program options.now seeds.first (seeds.last + 1) tally.new) }
 {

@@ -1,5 +1,5 @@
 ghost use Rattle.std.specs.Prelude.{◌≡◌, IfOk, IfErr, map, string_bytes, Some, None, option_map};
-ghost use Rattle.clap.specs.Words.{rows_of, found_of, first_of};
+ghost use Rattle.clap.specs.Words.{rows_of, found_of};
 ghost use Rattle.program_outside.specs.Numbers.{number_in_text};
 ghost use Rattle.program_outside.specs.declared.words.WordsFault.TheVariants.{Usage};
 ghost use Rattle.sweep_top.specs.Command.{around_dot, sweep_form_in, sweep_form_named, seeds_behind, seeds_between, seeds_in, seeds_named, seeds_of, sweep_from, sweep_of, AreSeeds, IsSweepInRange};
@@ -7,7 +7,7 @@ ghost use Rattle.sweep_top.specs.Command.{around_dot, sweep_form_in, sweep_form_
 use crate::command::sweep_command;
 use crate::options::{Form, MOST_SEEDS, Seeds, SweepOptions};
 use clap::ArgMatches;
-use program_outside::{WordsFault, matches_by, number};
+use program_outside::{WordsFault, matches_by, number, switch, text_of};
 use std::alloc::Global;
 
 /// The number of 32 bits that a text writes in decimal digits.
@@ -74,13 +74,6 @@ fn form_named(text: &str) -> Option<Form>
     }
 }
 
-/// The text of an option.
-fn text_of<'a>(matches: &ArgMatches<'a>, name: &str) -> Option<&'a str>
-    ensures { option_map (λ s. s.now) result ≡ first_of name.now (rows_of (found_of matches.now)) }
-{
-    matches.get_str(name)
-}
-
 /// The seeds that the words ask for.
 fn seeds(matches: &ArgMatches<'_>) -> Option<Seeds>
     ensures value { result ≡ seeds_in (rows_of (found_of matches.now)) }
@@ -111,6 +104,7 @@ fn sweep(matches: &ArgMatches<'_>) -> Option<SweepOptions>
     Some(SweepOptions {
         seeds: seeds(matches)?,
         form: form(matches)?,
+        retired: switch(matches, "retired")?,
         banks: number(matches, "banks", 1, 16)?,
         sets: number(matches, "sets", 1, 256)?,
         ways: number(matches, "ways", 1, 16)?,
@@ -120,10 +114,10 @@ fn sweep(matches: &ArgMatches<'_>) -> Option<SweepOptions>
 
 /// What the arguments ask for. The program's own name isn't among them.
 ///
-/// The command has the options `--seeds`, `--form`, `--banks`, `--sets`, `--ways` and `--fuel`, each with one value, and takes no
-/// other words. The seeds are written as `1..1000`: the first and the last one, at most 1,000,000. `SweepOptions` has the ranges
-/// of the numbers. An option may be given once at most, as `--fuel 7` or `--fuel=7`. The defaults are 1..1000, summary, 4, 64, 4
-/// and 32768.
+/// The command has the options `--seeds`, `--form`, `--retired`, `--banks`, `--sets`, `--ways` and `--fuel`, each with one value, and
+/// takes no other words. The seeds are written as `1..1000`: the first and the last one, at most 1,000,000. `SweepOptions` has the
+/// ranges of the numbers. An option may be given once at most, as `--fuel 7` or `--fuel=7`. The defaults are 1..1000, summary, on, 4,
+/// 64, 4 and 32768.
 ///
 /// # Errors
 /// `Usage` if the command doesn't take the words, `Memory` if there is no room to read them.
