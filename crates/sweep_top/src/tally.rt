@@ -17,7 +17,9 @@ use crate::spread::{Spread, Summed, widen_each};
 use dn_base::Memory;
 use dn_machine::{Machine, RunRecord};
 use indexmap::IndexMap;
-use run_report::{answer_text, answer_text_without_retired, event_count, grant_text, retired_by_all};
+use run_report::{
+    answer_text, answer_text_without_retired, event_count, grant_text, retired_by_all,
+};
 use std::alloc::Global;
 
 /// What is kept of the runs that were made. The text of an answer is kept once, however often it came.
@@ -116,7 +118,11 @@ impl Tally {
             outcome: run.ending.outcome,
             retired: instructions,
         };
-        count_answer(&mut self.answers, compared_answer(alloc, retired, run)?, once)?;
+        count_answer(
+            &mut self.answers,
+            compared_answer(alloc, retired, run)?,
+            once,
+        )?;
         let grants = grant_text(alloc, run.grants.as_slice())?;
         self.grants.push(checksum(grants.as_slice()))?;
         self.outcomes.add(run.ending.outcome);
