@@ -91,14 +91,14 @@ abbrev pub declared_by : Option TaskPlace → List ℕ
 declared_by (Some t) = that_line t.line
 declared_by None = []
 
--- the task that ends with a lock, and what may come of it
+-- the task that ends with a lock, and what follows
 unfoldable pub held_text : Located → ℕ → ℕ → ℕ → List ℕ
 held_text l phase core lock =
     the_task ++ declared_by (find (is_task_of phase core) l.places.tasks) ++ codes " ends while it holds " ++ lock_text l.program.locks lock
     ++ codes ", and another task of the phase takes this lock. If that one comes later, it waits for ever.\n  Release the lock before the task ends.\n"
     ++ sweep_advice
 
--- the lock that is on a cycle, and what may come of it
+-- the lock that is on a cycle, and what follows
 unfoldable pub stuck_text : Located → ℕ → List ℕ
 stuck_text l lock =
     indent ++ lock_text l.program.locks lock

@@ -193,7 +193,7 @@ fn push_declared_by(out: &mut Vec<u8>, task: Option<TaskPlace>) -> Result<(), Me
     }
 }
 
-/// Adds which task ends with a lock, and what may come of it.
+/// Adds which task ends with a lock, and what follows.
 #[tactic(auto, unfolding(crate::specs::Lines::held_text))]
 fn push_held(
     out: &mut Vec<u8>,
@@ -215,7 +215,7 @@ fn push_held(
     push_sweep_advice(out)
 }
 
-/// Adds which lock is on a cycle, and what may come of it.
+/// Adds which lock is on a cycle, and what follows.
 #[tactic(auto, unfolding(crate::specs::Lines::stuck_text))]
 fn push_stuck(out: &mut Vec<u8>, located: &Located, lock: u32) -> Result<(), Memory>
     ensures { OnOk result (out.new.items ≡ out.old.items ++ stuck_text located.now lock) }
