@@ -21,8 +21,8 @@ def mended(text, edits):
 
 
 def explained_cases():
-    """The cases of tools/explained.txt: for each its name, its text, denovo's words, all that explain has to write, and what comes of the
-    remedy: how the next answer begins, and the edits that mend the text; None where the case has none. A text may be the file that stands
+    """The cases of tools/explained.txt: for each its name, its text, denovo's words, or `outcomes` and that program's, all that explain has to
+    write, and what comes of the remedy: how the next answer begins, and the edits that mend the text; None where the case has none. A text may be the file that stands
     behind `< `, and `{8 x}` stands for eight times x."""
     def grown(piece):
         return re.sub(r"\{(\d+) (.)\}", lambda found: found[2] * int(found[1]), piece)
@@ -42,9 +42,13 @@ def answers_are_explained():
             answer = "".join(line + "\n" for line in output.splitlines() if not line.startswith("  "))
             file = pathlib.Path(room, "a text.s")
             file.write_text(text)
-            ran = run(programs("denovo")[0] + words, text.encode())
+            program, *words = ["outcomes", *words[1:]] if words[:1] == ["outcomes"] else ["denovo", *words]
+            ran = run(programs(program)[0] + words, text.encode())
             check(f"the answer to {name}", ran.stdout == answer.encode(), ran.stdout)
-            if not answer.startswith("refused ") and "list" not in words:
+            if program == "outcomes":
+                lines = reference.outcomes_text(reference.assemble(text), 32768)[1]
+                check(f"the answer to {name}, by the reference", "".join(line + "\n" for line in lines) == answer)
+            elif not answer.startswith("refused ") and "list" not in words:
                 lines = reference.answer(words, text)[1]
                 check(f"the answer to {name}, by the reference", "".join(line + "\n" for line in lines) == answer)
             ran = run(programs("explain")[0] + [str(file)], answer.encode())

@@ -20,7 +20,7 @@ use Rattle.sentences.specs.Endings.{code_place_at}
 use Rattle.explained_answer.specs.declared.line.AnswerLine as line
 use Rattle.explained_answer.specs.declared.line.FixedLine as fixed
 use Rattle.explained_answer.specs.Parts.{IsNumber}
-use Rattle.explained_answer.specs.AnswerLines.{answer_line, unbounded_line}
+use Rattle.explained_answer.specs.AnswerLines.{answer_line, place_line}
 use Rattle.explained_answer.specs.Answers.{size_line}
 use Rattle.explained_answer.proofs.Printed.{size-is}
 use Rattle.explained_answer.specs.Lines.{IsLineOf, has_task}
@@ -46,7 +46,7 @@ unfolding proved_text
 same-inside = refl
 
 same-unbounded : (phase : PhaseId) (core : CoreId) (pc : ℕ) → proved_text (Unbounded phase core pc) ≡ answer_line (line.TheVariants.Unbounded phase.0 core.0 pc)
-unfolding proved_text unbounded_line
+unfolding proved_text place_line
 same-unbounded phase core pc = refl
 
 module _ (text : List ℕ) (l : Located) (at' : IsLocated text l) where

@@ -57,6 +57,10 @@ tasks-among (line.TheVariants.Time k ∷ xs) t h = among-tail (line.TheVariants.
 tasks-among (line.TheVariants.Link k ∷ xs) t h = among-tail (line.TheVariants.Link k) xs (line.TheVariants.Task t) (tasks-among xs t h)
 tasks-among (line.TheVariants.Checked a b c ∷ xs) t h = among-tail (line.TheVariants.Checked a b c) xs (line.TheVariants.Task t) (tasks-among xs t h)
 tasks-among (line.TheVariants.Unbounded a b c ∷ xs) t h = among-tail (line.TheVariants.Unbounded a b c) xs (line.TheVariants.Task t) (tasks-among xs t h)
+tasks-among (line.TheVariants.Varies w ∷ xs) t h = among-tail (line.TheVariants.Varies w) xs (line.TheVariants.Task t) (tasks-among xs t h)
+tasks-among (line.TheVariants.OpenControl a b c ∷ xs) t h = among-tail (line.TheVariants.OpenControl a b c) xs (line.TheVariants.Task t) (tasks-among xs t h)
+tasks-among (line.TheVariants.OpenHeld a b c ∷ xs) t h = among-tail (line.TheVariants.OpenHeld a b c) xs (line.TheVariants.Task t) (tasks-among xs t h)
+tasks-among (line.TheVariants.OpenStuck a b ∷ xs) t h = among-tail (line.TheVariants.OpenStuck a b) xs (line.TheVariants.Task t) (tasks-among xs t h)
 tasks-among (line.TheVariants.Fixed f ∷ xs) t h = among-tail (line.TheVariants.Fixed f) xs (line.TheVariants.Task t) (tasks-among xs t h)
 
 -- the last task of a core is one of them
@@ -137,6 +141,10 @@ trapped-given lines (line.TheVariants.Time k) t among e = absurd (none-some t e)
 trapped-given lines (line.TheVariants.Link k) t among e = absurd (none-some t e)
 trapped-given lines (line.TheVariants.Checked a b c) t among e = absurd (none-some t e)
 trapped-given lines (line.TheVariants.Unbounded a b c) t among e = absurd (none-some t e)
+trapped-given lines (line.TheVariants.Varies w) t among e = absurd (none-some t e)
+trapped-given lines (line.TheVariants.OpenControl a b c) t among e = absurd (none-some t e)
+trapped-given lines (line.TheVariants.OpenHeld a b c) t among e = absurd (none-some t e)
+trapped-given lines (line.TheVariants.OpenStuck a b) t among e = absurd (none-some t e)
 trapped-given lines (line.TheVariants.Fixed f) t among e = absurd (none-some t e)
 
 cut-given : (o : Option TaskEnd) (t : TaskEnd) → if_cut o ≡ Some t → (o ≡ Some t) × ((is_trapped t.end || is_spent t.end) ≡ true)
@@ -161,6 +169,10 @@ keeper-given lines (line.TheVariants.Time k) t among e = absurd (none-some t e)
 keeper-given lines (line.TheVariants.Link k) t among e = absurd (none-some t e)
 keeper-given lines (line.TheVariants.Checked a b c) t among e = absurd (none-some t e)
 keeper-given lines (line.TheVariants.Unbounded a b c) t among e = absurd (none-some t e)
+keeper-given lines (line.TheVariants.Varies w) t among e = absurd (none-some t e)
+keeper-given lines (line.TheVariants.OpenControl a b c) t among e = absurd (none-some t e)
+keeper-given lines (line.TheVariants.OpenHeld a b c) t among e = absurd (none-some t e)
+keeper-given lines (line.TheVariants.OpenStuck a b) t among e = absurd (none-some t e)
 keeper-given lines (line.TheVariants.Fixed f) t among e = absurd (none-some t e)
 
 pub trapped-by : (lines : List AnswerLine) (t : TaskEnd) → cause_of outcome.TheVariants.Trapped lines ≡ Some t → IsTrappedBy lines t

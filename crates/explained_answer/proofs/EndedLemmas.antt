@@ -66,6 +66,10 @@ with_last_task-is table ts (line.TheVariants.Time t) size so_far = no-task table
 with_last_task-is table ts (line.TheVariants.Link k) size so_far = no-task table ts so_far
 with_last_task-is table ts (line.TheVariants.Checked a b c) size so_far = no-task table ts so_far
 with_last_task-is table ts (line.TheVariants.Unbounded a b c) size so_far = no-task table ts so_far
+with_last_task-is table ts (line.TheVariants.Varies w) size so_far = no-task table ts so_far
+with_last_task-is table ts (line.TheVariants.OpenControl a b c) size so_far = no-task table ts so_far
+with_last_task-is table ts (line.TheVariants.OpenHeld a b c) size so_far = no-task table ts so_far
+with_last_task-is table ts (line.TheVariants.OpenStuck a b) size so_far = no-task table ts so_far
 with_last_task-is table ts (line.TheVariants.Fixed f) size so_far = no-task table ts so_far
 
 length-with_last_task : (table : List (Option TaskEnd)) (x : AnswerLine) → length (with_last_task table x) ≡ length table
@@ -79,6 +83,10 @@ length-with_last_task table (line.TheVariants.Time t) = refl
 length-with_last_task table (line.TheVariants.Link k) = refl
 length-with_last_task table (line.TheVariants.Checked a b c) = refl
 length-with_last_task table (line.TheVariants.Unbounded a b c) = refl
+length-with_last_task table (line.TheVariants.Varies w) = refl
+length-with_last_task table (line.TheVariants.OpenControl a b c) = refl
+length-with_last_task table (line.TheVariants.OpenHeld a b c) = refl
+length-with_last_task table (line.TheVariants.OpenStuck a b) = refl
 length-with_last_task table (line.TheVariants.Fixed f) = refl
 
 -- the table that one more line leaves
@@ -129,4 +137,8 @@ named-other lines (line.TheVariants.Time t) other = refl
 named-other lines (line.TheVariants.Link k) other = refl
 named-other lines (line.TheVariants.Checked a b c) other = refl
 named-other lines (line.TheVariants.Unbounded a b c) other = refl
+named-other lines (line.TheVariants.Varies w) other = refl
+named-other lines (line.TheVariants.OpenControl a b c) other = refl
+named-other lines (line.TheVariants.OpenHeld a b c) other = refl
+named-other lines (line.TheVariants.OpenStuck a b) other = refl
 named-other lines (line.TheVariants.Fixed f) other = refl

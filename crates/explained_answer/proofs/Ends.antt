@@ -181,6 +181,10 @@ no-line bytes outcomes tasks words grants counts others (line.TheVariants.Time t
 no-line bytes outcomes tasks words grants counts others (line.TheVariants.Link l) rest st = others (line.TheVariants.Link l) rest (record { fits = st.fits; parts = st.parts })
 no-line bytes outcomes tasks words grants counts others (line.TheVariants.Checked a b c) rest st = others (line.TheVariants.Checked a b c) rest (record { fits = st.fits; parts = st.parts })
 no-line bytes outcomes tasks words grants counts others (line.TheVariants.Unbounded p c a) rest st = others (line.TheVariants.Unbounded p c a) rest (record { fits = st.fits; parts = st.parts })
+no-line bytes outcomes tasks words grants counts others (line.TheVariants.Varies w) rest st = others (line.TheVariants.Varies w) rest (record { fits = st.fits; parts = st.parts })
+no-line bytes outcomes tasks words grants counts others (line.TheVariants.OpenControl a b c) rest st = others (line.TheVariants.OpenControl a b c) rest (record { fits = st.fits; parts = st.parts })
+no-line bytes outcomes tasks words grants counts others (line.TheVariants.OpenHeld a b c) rest st = others (line.TheVariants.OpenHeld a b c) rest (record { fits = st.fits; parts = st.parts })
+no-line bytes outcomes tasks words grants counts others (line.TheVariants.OpenStuck a b) rest st = others (line.TheVariants.OpenStuck a b) rest (record { fits = st.fits; parts = st.parts })
 no-line bytes outcomes tasks words grants counts others (line.TheVariants.Fixed f) rest st = others (line.TheVariants.Fixed f) rest (record { fits = st.fits; parts = st.parts })
 
 pub none-more : {X : Type 0} (o : Option X) (P Q : Type 0) → (P → Q) → IfNone o P → IfNone o Q

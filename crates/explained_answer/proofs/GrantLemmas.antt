@@ -60,6 +60,10 @@ with_last_grant-is l table gs (line.TheVariants.Time t) is room so_far = no-gran
 with_last_grant-is l table gs (line.TheVariants.Link k) is room so_far = no-grant table gs so_far
 with_last_grant-is l table gs (line.TheVariants.Checked a b c) is room so_far = no-grant table gs so_far
 with_last_grant-is l table gs (line.TheVariants.Unbounded a b c) is room so_far = no-grant table gs so_far
+with_last_grant-is l table gs (line.TheVariants.Varies w) is room so_far = no-grant table gs so_far
+with_last_grant-is l table gs (line.TheVariants.OpenControl a b c) is room so_far = no-grant table gs so_far
+with_last_grant-is l table gs (line.TheVariants.OpenHeld a b c) is room so_far = no-grant table gs so_far
+with_last_grant-is l table gs (line.TheVariants.OpenStuck a b) is room so_far = no-grant table gs so_far
 with_last_grant-is l table gs (line.TheVariants.Fixed f) is room so_far = no-grant table gs so_far
 
 -- what some functions of lines give for one line more
@@ -94,6 +98,10 @@ length-with_last_grant table (line.TheVariants.Time t) = refl
 length-with_last_grant table (line.TheVariants.Link k) = refl
 length-with_last_grant table (line.TheVariants.Checked a b c) = refl
 length-with_last_grant table (line.TheVariants.Unbounded a b c) = refl
+length-with_last_grant table (line.TheVariants.Varies w) = refl
+length-with_last_grant table (line.TheVariants.OpenControl a b c) = refl
+length-with_last_grant table (line.TheVariants.OpenHeld a b c) = refl
+length-with_last_grant table (line.TheVariants.OpenStuck a b) = refl
 length-with_last_grant table (line.TheVariants.Fixed f) = refl
 
 -- the table that one more line leaves

@@ -25,7 +25,7 @@ use Rattle.explained_answer.specs.declared.line.Count.{Count}
 use Rattle.explained_answer.specs.declared.line.FixedLine as fixed
 use Rattle.explained_answer.specs.declared.line.Link.{Link}
 use Rattle.explained_answer.specs.Parts.{pair_fields, three_line}
-use Rattle.explained_answer.specs.AnswerLines.{IsAnswerLine, answer_line, address_line, link_line, sum_line, unbounded_line, trap_front, trap_rest, stop_by, all_traps, count_front, all_counts, kind_front}
+use Rattle.explained_answer.specs.AnswerLines.{IsAnswerLine, answer_line, address_line, link_line, sum_line, place_line, varies_line, trap_front, trap_rest, stop_by, all_traps, count_front, all_counts, kind_front}
 use Rattle.explained_answer.proofs.Forms.{word-is}
 
 -- whether some bytes begin with others
@@ -136,6 +136,10 @@ line_front (line.TheVariants.Time t) = codes "time "
 line_front (line.TheVariants.Link l) = codes "link "
 line_front (line.TheVariants.Checked a b c) = codes "checked "
 line_front (line.TheVariants.Unbounded p c a) = codes "unbounded "
+line_front (line.TheVariants.Varies w) = codes "varies "
+line_front (line.TheVariants.OpenControl p c a) = codes "open control "
+line_front (line.TheVariants.OpenHeld p c l) = codes "open held "
+line_front (line.TheVariants.OpenStuck p l) = codes "open stuck "
 line_front x = answer_line x
 
 -- a line with zeros as its numbers
@@ -151,6 +155,10 @@ line_form (line.TheVariants.Time t) = line.TheVariants.Time 0
 line_form (line.TheVariants.Link l) = line.TheVariants.Link (record { event = 0; kind = event.TheVariants.Instr; finish = 0 })
 line_form (line.TheVariants.Checked a b c) = line.TheVariants.Checked 0 0 0
 line_form (line.TheVariants.Unbounded p c a) = line.TheVariants.Unbounded 0 0 0
+line_form (line.TheVariants.Varies w) = line.TheVariants.Varies 0
+line_form (line.TheVariants.OpenControl p c a) = line.TheVariants.OpenControl 0 0 0
+line_form (line.TheVariants.OpenHeld p c l) = line.TheVariants.OpenHeld 0 0 0
+line_form (line.TheVariants.OpenStuck p l) = line.TheVariants.OpenStuck 0 0
 line_form (line.TheVariants.Fixed f) = line.TheVariants.Fixed f
 
 abbrev line_forms : List AnswerLine
@@ -162,7 +170,8 @@ line_forms =
     ∷ line.TheVariants.Task (record { phase = record { 0 = 0 }; core = record { 0 = 0 }; end = shown.TheVariants.Finished; retired = 0 })
     ∷ line.TheVariants.Word 0 0 ∷ line.TheVariants.Grant (record { phase = record { 0 = 0 }; core = record { 0 = 0 }; lock = record { 0 = 0 } })
     ∷ line.TheVariants.Sum 0 ∷ line.TheVariants.Time 0 ∷ line.TheVariants.Link (record { event = 0; kind = event.TheVariants.Instr; finish = 0 })
-    ∷ line.TheVariants.Checked 0 0 0 ∷ line.TheVariants.Unbounded 0 0 0 ∷ map (λ (c : Count). line.TheVariants.Count c 0) all_counts
+    ∷ line.TheVariants.Checked 0 0 0 ∷ line.TheVariants.Unbounded 0 0 0
+    ∷ line.TheVariants.Varies 0 ∷ line.TheVariants.OpenControl 0 0 0 ∷ line.TheVariants.OpenHeld 0 0 0 ∷ line.TheVariants.OpenStuck 0 0 ∷ map (λ (c : Count). line.TheVariants.Count c 0) all_counts
 
 abbrev pub line-there : List ℕ → Option AnswerLine
 unfolding outcome_line refusal_of all_counts
@@ -173,7 +182,7 @@ unfolding address_line outcome_line refusal_of all_counts
 word-shows a v r = refl
 
 line-shows : (x : AnswerLine) (r : List ℕ) → IsAnswerLine x → line-there (answer_line x ++ r) ≡ Some (line_form x)
-unfolding outcome_line task_line words_line counted_line count_line grant_line sum_line link_line three_line unbounded_line refusal_of all_counts
+unfolding outcome_line task_line words_line counted_line count_line grant_line sum_line link_line three_line place_line varies_line pair_fields field refusal_of all_counts
 line-shows (line.TheVariants.Outcome outcome.TheVariants.Done) r fits = refl
 line-shows (line.TheVariants.Outcome outcome.TheVariants.Trapped) r fits = refl
 line-shows (line.TheVariants.Outcome outcome.TheVariants.Fuel) r fits = refl
@@ -210,6 +219,10 @@ line-shows (line.TheVariants.Time t) r fits = refl
 line-shows (line.TheVariants.Link l) r fits = refl
 line-shows (line.TheVariants.Checked a b c) r fits = refl
 line-shows (line.TheVariants.Unbounded p c a) r fits = refl
+line-shows (line.TheVariants.Varies w) r fits = refl
+line-shows (line.TheVariants.OpenControl p c a) r fits = refl
+line-shows (line.TheVariants.OpenHeld p c l) r fits = refl
+line-shows (line.TheVariants.OpenStuck p l) r fits = refl
 line-shows (line.TheVariants.Fixed fixed.TheVariants.Inside) r fits = refl
 line-shows (line.TheVariants.Fixed fixed.TheVariants.Usage) r fits = refl
 line-shows (line.TheVariants.Fixed fixed.TheVariants.TooLarge) r fits = refl
@@ -229,6 +242,10 @@ IsLike (line.TheVariants.Time t) y = (u : ℕ) × (y ≡ line.TheVariants.Time u
 IsLike (line.TheVariants.Link l) y = (k : Link) × (y ≡ line.TheVariants.Link k)
 IsLike (line.TheVariants.Checked a b c) y = (d : ℕ) × (e : ℕ) × (f : ℕ) × (y ≡ line.TheVariants.Checked d e f)
 IsLike (line.TheVariants.Unbounded p c a) y = (d : ℕ) × (e : ℕ) × (f : ℕ) × (y ≡ line.TheVariants.Unbounded d e f)
+IsLike (line.TheVariants.Varies w) y = (v : ℕ) × (y ≡ line.TheVariants.Varies v)
+IsLike (line.TheVariants.OpenControl p c a) y = (d : ℕ) × (e : ℕ) × (f : ℕ) × (y ≡ line.TheVariants.OpenControl d e f)
+IsLike (line.TheVariants.OpenHeld p c l) y = (d : ℕ) × (e : ℕ) × (f : ℕ) × (y ≡ line.TheVariants.OpenHeld d e f)
+IsLike (line.TheVariants.OpenStuck p l) y = (d : ℕ) × (e : ℕ) × (y ≡ line.TheVariants.OpenStuck d e)
 IsLike (line.TheVariants.Fixed f) y = y ≡ line.TheVariants.Fixed f
 
 line-of-form : (y : AnswerLine) → IsLike (line_form y) y
@@ -242,6 +259,10 @@ line-of-form (line.TheVariants.Time t) = (t, refl)
 line-of-form (line.TheVariants.Link l) = (l, refl)
 line-of-form (line.TheVariants.Checked a b c) = (a, b, c, refl)
 line-of-form (line.TheVariants.Unbounded p c a) = (p, c, a, refl)
+line-of-form (line.TheVariants.Varies w) = (w, refl)
+line-of-form (line.TheVariants.OpenControl p c a) = (p, c, a, refl)
+line-of-form (line.TheVariants.OpenHeld p c l) = (p, c, l, refl)
+line-of-form (line.TheVariants.OpenStuck p l) = (p, l, refl)
 line-of-form (line.TheVariants.Fixed f) = refl
 
 pub line-like : (x y : AnswerLine) (r q : List ℕ) → IsAnswerLine x → IsAnswerLine y → answer_line x ++ r ≡ answer_line y ++ q → IsLike (line_form x) y

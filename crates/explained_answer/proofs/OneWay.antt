@@ -20,9 +20,9 @@ use Rattle.explained_answer.specs.declared.line.AnswerLine.{AnswerLine}
 use Rattle.explained_answer.specs.declared.line.Count.{Count}
 use Rattle.explained_answer.specs.declared.tasks.Trapped.{Trapped}
 use Rattle.explained_answer.specs.Parts.{IsNumber, IsTicks, pair_fields, three_line, hexadecimal_line}
-use Rattle.explained_answer.specs.AnswerLines.{HasGrantNumbers, HasTrapNumbers, HasEndNumbers, HasTaskNumbers, HasLinkNumbers, HasUnboundedNumbers, IsShownWord, IsAnswerLine, answer_line, address_line, link_line, sum_line, unbounded_line, fixed_line, trap_front, trap_rest, stop_by, count_front, count_line_of, kind_front}
+use Rattle.explained_answer.specs.AnswerLines.{HasGrantNumbers, HasTrapNumbers, HasEndNumbers, HasTaskNumbers, HasLinkNumbers, HasUnboundedNumbers, IsDataWord, IsShownWord, IsAnswerLine, answer_line, address_line, link_line, sum_line, place_line, varies_line, fixed_line, trap_front, trap_rest, stop_by, count_front, count_line_of, kind_front}
 use Rattle.explained_answer.proofs.Forms.{two-next, trap-parts, address-parts, word-is}
-use Rattle.explained_answer.proofs.Others.{link-parts, three-parts, unbounded-parts, hexadecimal-parts, sum-parts, grant-is, time-is}
+use Rattle.explained_answer.proofs.Others.{link-parts, three-parts, place-parts, varies-parts, hexadecimal-parts, sum-parts, grant-is, time-is}
 use Rattle.explained_answer.proofs.Ends.{task-parts, count-is}
 use Rattle.explained_answer.proofs.Ticks.{value-of, rest-of}
 use Rattle.explained_answer.proofs.LineFronts.{kind-same, IsEndLike, end_form, end-like, line_form, IsLike, line-like}
@@ -52,7 +52,7 @@ three-one name a b c x y z r q fa fb fc fx fy fz is =
     let last = number-one [] c z r q fc fz two.2 in
     (two.0, two.1, last.0, last.1)
 
-word-line-one : IsOne IsWord hexadecimal_line
+pub word-line-one : IsOne IsWord hexadecimal_line
 word-line-one m n r q low small is =
     let one = word-one m n _ _ low small (sym (hexadecimal-parts m r) ∙ is ∙ hexadecimal-parts n q) in
     (one.0, append_cancel_left newline r q one.1)
@@ -137,14 +137,21 @@ link-one k l r q fk fl is =
     (event.1 ∙ ap (λ (j : EventKind). field (kind_front j) newline l.finish ++ q) (sym kind)) in
     (λ i. record { event = event.0 i; kind = kind i; finish = finish.0 i }, finish.1)
 
-unbounded-one : (p c a d e f : ℕ) (r q : List ℕ) → HasUnboundedNumbers p c a → HasUnboundedNumbers d e f → unbounded_line p c a ++ r ≡ unbounded_line d e f ++ q
+place-one : (name : List ℕ) (p c a d e f : ℕ) (r q : List ℕ) → HasUnboundedNumbers p c a → HasUnboundedNumbers d e f → place_line name p c a ++ r ≡ place_line name d e f ++ q
     → (p ≡ d) × (c ≡ e) × (a ≡ f) × (r ≡ q)
-unbounded-one p c a d e f r q fits fits' is =
+place-one name p c a d e f r q fits fits' is =
     let two =
-    pair-one (codes "unbounded ") [] 32 refl p c d e _ _ fits.phase_from fits.core_from fits'.phase_from fits'.core_from
-    (sym (unbounded-parts p c a r) ∙ is ∙ unbounded-parts d e f q) in
+    pair-one name [] 32 refl p c d e _ _ fits.phase_from fits.core_from fits'.phase_from fits'.core_from
+    (sym (place-parts name p c a r) ∙ is ∙ place-parts name d e f q) in
     let pc = word-line-one a f r q fits.pc_word fits'.pc_word two.2 in
     (two.0, two.1, pc.0, pc.1)
+
+varies-one : IsOne IsDataWord varies_line
+varies-one v w r q fv fw is =
+    let one =
+    word-line-one (268435456 + 4 * v) (268435456 + 4 * w) r q (omega (arith, fv)) (omega (arith, fw))
+    (append_cancel_left (codes "varies ") _ _ (sym (varies-parts v r) ∙ is ∙ varies-parts w q)) in
+    (omega (arith, one.0), one.1)
 
 -- ---- all lines
 
@@ -183,8 +190,24 @@ one-of-form (line.TheVariants.Checked a b c) y r q fits is =
     (λ i. line.TheVariants.Checked (one.0 i) (one.1 i) (one.2 i), one.3))
 one-of-form (line.TheVariants.Unbounded p c a) y r q fits is =
     subst (IsSame (line.TheVariants.Unbounded p c a) r q) (sym is.3) (λ fits' same.
-    let one = unbounded-one p c a is.0 is.1 is.2 r q fits fits' same in
+    let one = place-one (codes "unbounded ") p c a is.0 is.1 is.2 r q fits fits' same in
     (λ i. line.TheVariants.Unbounded (one.0 i) (one.1 i) (one.2 i), one.3))
+one-of-form (line.TheVariants.Varies w) y r q fits is =
+    subst (IsSame (line.TheVariants.Varies w) r q) (sym is.1) (λ fits' same.
+    let one = varies-one w is.0 r q fits fits' same in (ap line.TheVariants.Varies one.0, one.1))
+one-of-form (line.TheVariants.OpenControl p c a) y r q fits is =
+    subst (IsSame (line.TheVariants.OpenControl p c a) r q) (sym is.3) (λ fits' same.
+    let one = place-one (codes "open control ") p c a is.0 is.1 is.2 r q fits fits' same in
+    (λ i. line.TheVariants.OpenControl (one.0 i) (one.1 i) (one.2 i), one.3))
+one-of-form (line.TheVariants.OpenHeld p c l) y r q fits is =
+    subst (IsSame (line.TheVariants.OpenHeld p c l) r q) (sym is.3) (λ fits' same.
+    let one =
+    three-one (codes "open held ") p c l is.0 is.1 is.2 r q fits.phase_from fits.core_from fits.lock_from fits'.phase_from fits'.core_from fits'.lock_from same in
+    (λ i. line.TheVariants.OpenHeld (one.0 i) (one.1 i) (one.2 i), one.3))
+one-of-form (line.TheVariants.OpenStuck p l) y r q fits is =
+    subst (IsSame (line.TheVariants.OpenStuck p l) r q) (sym is.2) (λ fits' same.
+    let one = pair-one (codes "open stuck ") [] 10 refl p l is.0 is.1 r q fits.phase_from fits.lock_from fits'.phase_from fits'.lock_from same in
+    (λ i. line.TheVariants.OpenStuck (one.0 i) (one.1 i), one.2))
 one-of-form (line.TheVariants.Fixed f) y r q fits is =
     subst (IsSame (line.TheVariants.Fixed f) r q) (sym is) (λ _ same. (refl, append_cancel_left (fixed_line f) r q same))
 

@@ -5,7 +5,7 @@ use Rattle.std.proofs.lemmas.Grind.{flat_map-append}
 use Rattle.std.proofs.lemmas.List.{append-nil, length-map, map-append}
 use Rattle.std.proofs.Math.Seq.{take-append_seam}
 use Rattle.text_places.specs.declared.places.Located.{Located}
-use Rattle.text_pieces.specs.Field.{Stands}
+use Rattle.text_pieces.specs.Field.{field, Stands}
 use Rattle.text_pieces.specs.Pieces.{newline, space, hexadecimal}
 use Rattle.std.specs.Fmt.{decimal}
 use Rattle.run_report.specs.Answer.{outcome_word, outcome_line, end_text, task_line, words_line}
@@ -17,8 +17,8 @@ use Rattle.explained_answer.specs.declared.line.Count as count
 use Rattle.run_report.specs.Summary.{count_line}
 use Rattle.run_report.specs.Refusal.{refusal_of}
 use Rattle.explained_answer.specs.declared.line.FixedLine as fixed
-use Rattle.explained_answer.specs.Parts.{three_line}
-use Rattle.explained_answer.specs.AnswerLines.{IsAnswerLine, answer_line, address_line, link_line, sum_line, unbounded_line}
+use Rattle.explained_answer.specs.Parts.{pair_fields, three_line}
+use Rattle.explained_answer.specs.AnswerLines.{IsAnswerLine, answer_line, address_line, link_line, sum_line, place_line, varies_line}
 use Rattle.explained_answer.proofs.Forms.{word-is}
 use Rattle.explained_answer.specs.declared.parsing.ReadLine.{ReadLine}
 use Rattle.explained_answer.specs.Lines.{IsLineOf, NoLineOf, IsRefusedAt, line_read, lines_in, IsWritten, AreLinesRead, lines_and_sentences, AreAllLinesExplained}
@@ -41,7 +41,7 @@ unfolding address_line
 word-some a v = behind-line (codes "word " ++ hexadecimal a ++ space ++ hexadecimal v)
 
 pub line-some : (x : AnswerLine) → IsAnswerLine x → 0 < length (answer_line x)
-unfolding outcome_line task_line words_line counted_line count_line grant_line sum_line link_line three_line unbounded_line refusal_of
+unfolding outcome_line task_line words_line counted_line count_line grant_line sum_line link_line three_line place_line varies_line pair_fields field refusal_of
 line-some (line.TheVariants.Outcome o) fits = behind-line (codes "outcome " ++ outcome_word o)
 line-some (line.TheVariants.Task t) fits =
     behind-line (codes "task " ++ decimal t.phase.0 ++ space ++ decimal t.core.0 ++ space ++ end_text t.end ++ codes " retired " ++ decimal t.retired)
@@ -60,6 +60,10 @@ line-some (line.TheVariants.Time t) fits = behind-line (codes "time " ++ decimal
 line-some (line.TheVariants.Link l) fits = behind-line (codes "link " ++ decimal l.event ++ space ++ event_word l.kind ++ space ++ decimal l.finish)
 line-some (line.TheVariants.Checked a b c) fits = behind-line (codes "checked " ++ decimal a ++ space ++ decimal b ++ space ++ decimal c)
 line-some (line.TheVariants.Unbounded p c a) fits = behind-line (codes "unbounded " ++ decimal p ++ space ++ decimal c ++ space ++ hexadecimal a)
+line-some (line.TheVariants.Varies w) fits = behind-line (codes "varies " ++ hexadecimal (268435456 + 4 * w))
+line-some (line.TheVariants.OpenControl p c a) fits = behind-line (codes "open control " ++ decimal p ++ space ++ decimal c ++ space ++ hexadecimal a)
+line-some (line.TheVariants.OpenHeld a b c) fits = behind-line (codes "open held " ++ decimal a ++ space ++ decimal b ++ space ++ decimal c)
+line-some (line.TheVariants.OpenStuck a b) fits = omega arith
 line-some (line.TheVariants.Fixed fixed.TheVariants.Inside) fits = behind-line (codes "proved inside")
 line-some (line.TheVariants.Fixed fixed.TheVariants.Usage) fits = behind-line (codes "refused usage")
 line-some (line.TheVariants.Fixed fixed.TheVariants.TooLarge) fits = behind-line (codes "refused trace too-large")

@@ -21,7 +21,7 @@ use Rattle.rv_isa.specs.declared.instr.Instr.{Instr}
 use Rattle.rv_isa.specs.declared.instr.Instr.TheVariants.{Lui, Auipc, Jal, Jalr, Branch, Load, Store, OpImm, Op, Fence, Ecall, Ebreak}
 use Rattle.rv_listing.specs.Statement.{register, address, operands, more_operands, statement}
 use Rattle.rv_listing.specs.Instruction.{branch_word, load_word, store_word, immediate_word, operation_word, instruction_line, raw_line, line_by, code_line, addressed_line}
-use Rattle.rv_listing.specs.Listing.{text_of, version_lines, region_line, value_line, value_lines, region_values, lock_line, phase_lines, lines_with, lines_of_code, addressed_lines, listed_lines, listed_lines_with_addresses, listing_of, listing_with_addresses, listing_in}
+use Rattle.rv_listing.specs.Listing.{text_of, version_lines, region_line, value_line, value_lines, region_values, lock_line, phase_lines, lines_with, code_lines, addressed_lines, listed_lines, listed_lines_with_addresses, listing_of, listing_with_addresses, listing_in}
 use Rattle.run_report.specs.Answer.{outcome_word, outcome_line, end_text, task_line, words_line}
 use Rattle.run_report.specs.Grants.{grant_line}
 use Rattle.run_report.specs.Run.{event_word, counted_line}
@@ -37,8 +37,9 @@ use Rattle.explained_answer.specs.declared.line.AnswerLine as line
 use Rattle.explained_answer.specs.declared.line.AnswerLine.{AnswerLine}
 use Rattle.explained_answer.specs.declared.line.Count as count
 use Rattle.explained_answer.specs.declared.line.FixedLine as fixed
-use Rattle.explained_answer.specs.Parts.{three_line}
-use Rattle.explained_answer.specs.AnswerLines.{IsAnswerLine, answer_line, address_line, link_line, sum_line, unbounded_line}
+use Rattle.text_pieces.specs.Field.{field}
+use Rattle.explained_answer.specs.Parts.{pair_fields, three_line}
+use Rattle.explained_answer.specs.AnswerLines.{IsAnswerLine, answer_line, address_line, link_line, sum_line, place_line, varies_line}
 use Rattle.explained_answer.proofs.Forms.{word-is}
 use Rattle.explained_answer.specs.Explained.{IsNoListing}
 
@@ -48,13 +49,14 @@ abbrev are_three : (x y z a b c : ℕ) → Bool
 are_three x y z a b c = a == x && (b == y && c == z)
 
 -- whether three bytes begin a line of an answer or the first line of a document: `out`, `tas`, `wor`, `gra`, `cou`, `ret`, `cha`, `ref`,
--- `sum`, `tim`, `lin`, `che`, `unb`, `pro` and `den`
+-- `sum`, `tim`, `lin`, `che`, `unb`, `pro`, `den`, `var` and `ope`
 abbrev is_answer : (a b c : ℕ) → Bool
 is_answer a b c =
     are_three 111 117 116 a b c || (are_three 116 97 115 a b c || (are_three 119 111 114 a b c || (are_three 103 114 97 a b c
     || (are_three 99 111 117 a b c || (are_three 114 101 116 a b c || (are_three 99 104 97 a b c || (are_three 114 101 102 a b c
     || (are_three 115 117 109 a b c || (are_three 116 105 109 a b c || (are_three 108 105 110 a b c || (are_three 99 104 101 a b c
-    || (are_three 117 110 98 a b c || (are_three 112 114 111 a b c || are_three 100 101 110 a b c)))))))))))))
+    || (are_three 117 110 98 a b c || (are_three 112 114 111 a b c || (are_three 100 101 110 a b c
+    || (are_three 118 97 114 a b c || are_three 111 112 101 a b c)))))))))))))))
 
 -- whether bytes begin so
 abbrev begins_answer : List ℕ → Bool
@@ -217,16 +219,16 @@ phases-start regions locks (p ∷ ps) = of-three 46 112 104 (codes "ase") [] ref
 else-more : (bytes more : List ℕ) → BeginsElse bytes → BeginsElse (bytes ++ more)
 else-more bytes more h = record { a = h.a; b = h.b; c = h.c; rest = h.rest ++ more; is = ap (λ (bs : List ℕ). bs ++ more) h.is; other = h.other }
 
-code-start : (addresses : Bool) (code : List ℕ) → StartElse (lines_of_code addresses code)
+code-start : (addresses : Bool) (code : List ℕ) → StartElse (code_lines addresses code)
 unfolding code_line addressed_line
 code-start false [] = tt
 code-start true [] = tt
 code-start false (w ∷ ws) = word-else w (decoded w)
 code-start true (w ∷ ws) = else-more (line_by w (decoded w)) (codes "  # " ++ hexadecimal FIRST_CODE_ADDRESS) (word-else w (decoded w))
 
-lines-start : (addresses : Bool) (p : ProgramParts) → StartElse (lines_with (lines_of_code addresses p.code) p)
+lines-start : (addresses : Bool) (p : ProgramParts) → StartElse (lines_with (code_lines addresses p.code) p)
 lines-start addresses p =
-    let code = lines_of_code addresses p.code in
+    let code = code_lines addresses p.code in
     let phases = flat_map (phase_lines p.regions p.locks) p.phases in
     let locks = map lock_line p.locks in
     let values = flat_map (region_values p.memory) p.regions in
@@ -299,7 +301,7 @@ begins-same : (xs ys : List ℕ) → xs ≡ ys → BeginsAnswer ys → BeginsAns
 begins-same xs ys same h = record { a = h.a; b = h.b; c = h.c; rest = h.rest; is = same ∙ h.is; of = h.of; one = h.one; two = h.two }
 
 line-begins : (x : AnswerLine) → IsAnswerLine x → BeginsAnswer (answer_line x)
-unfolding outcome_line task_line words_line counted_line count_line grant_line sum_line link_line three_line unbounded_line refusal_of
+unfolding outcome_line task_line words_line counted_line count_line grant_line sum_line link_line three_line place_line varies_line pair_fields field refusal_of
 line-begins (line.TheVariants.Outcome o) fits = begins _ 111 117 116 (codes "come " ++ outcome_word o ++ newline) refl refl refl refl
 line-begins (line.TheVariants.Task t) fits =
     begins _ 116 97 115
@@ -328,6 +330,12 @@ line-begins (line.TheVariants.Checked p t w) fits =
     begins _ 99 104 101 (codes "cked " ++ decimal p ++ space ++ decimal t ++ space ++ decimal w ++ newline) refl refl refl refl
 line-begins (line.TheVariants.Unbounded p c a) fits =
     begins _ 117 110 98 (codes "ounded " ++ decimal p ++ space ++ decimal c ++ space ++ hexadecimal a ++ newline) refl refl refl refl
+line-begins (line.TheVariants.Varies w) fits = begins _ 118 97 114 (codes "ies " ++ hexadecimal (268435456 + 4 * w) ++ newline) refl refl refl refl
+line-begins (line.TheVariants.OpenControl p c a) fits =
+    begins _ 111 112 101 (codes "n control " ++ decimal p ++ space ++ decimal c ++ space ++ hexadecimal a ++ newline) refl refl refl refl
+line-begins (line.TheVariants.OpenHeld p c l) fits =
+    begins _ 111 112 101 (codes "n held " ++ decimal p ++ space ++ decimal c ++ space ++ decimal l ++ newline) refl refl refl refl
+line-begins (line.TheVariants.OpenStuck p l) fits = begins _ 111 112 101 ((codes "n stuck " ++ decimal p ++ space) ++ ([] ++ decimal l ++ newline)) refl refl refl refl
 line-begins (line.TheVariants.Fixed fixed.TheVariants.Inside) fits = begins _ 112 114 111 (codes "ved inside" ++ newline) refl refl refl refl
 line-begins (line.TheVariants.Fixed fixed.TheVariants.Usage) fits = begins _ 114 101 102 (codes "used usage" ++ newline) refl refl refl refl
 line-begins (line.TheVariants.Fixed fixed.TheVariants.TooLarge) fits = begins _ 114 101 102 (codes "used trace too-large" ++ newline) refl refl refl refl

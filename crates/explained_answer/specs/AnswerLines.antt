@@ -1,6 +1,6 @@
 -- The lines of an answer, by what they say, and the numbers that they may have.
 use Rattle.std.specs.Fmt.{decimal}
-use Rattle.std.specs.Prelude.{◌≡◌, ℕ, ◌^◌, ◌<◌, List, [], ◌∷◌, ◌++◌, codes}
+use Rattle.std.specs.Prelude.{◌≡◌, ℕ, ◌+◌, ◌*◌, ◌^◌, ◌<◌, List, [], ◌∷◌, ◌++◌, codes}
 use Rattle.dn_base.specs.declared.ids.Grant.{Grant}
 use Rattle.message_net.specs.declared.event.EventKind as event
 use Rattle.message_net.specs.declared.event.EventKind.{EventKind}
@@ -76,6 +76,18 @@ pub record HasUnboundedNumbers (phase core pc : ℕ) : Type 0 where
   pub core_from : IsNumber core
   pub pc_word : IsWord pc
 
+pub record HasHeldNumbers (phase core lock : ℕ) : Type 0 where
+  pub phase_from : IsNumber phase
+  pub core_from : IsNumber core
+  pub lock_from : IsNumber lock
+
+pub record HasStuckNumbers (phase lock : ℕ) : Type 0 where
+  pub phase_from : IsNumber phase
+  pub lock_from : IsNumber lock
+
+abbrev pub IsDataWord : ℕ → Type 0
+IsDataWord word = word < 65536
+
 abbrev pub IsAnswerLine : AnswerLine → Type 0
 IsAnswerLine (line.TheVariants.Outcome o) = Unit {0}
 IsAnswerLine (line.TheVariants.Task t) = HasTaskNumbers t
@@ -87,6 +99,10 @@ IsAnswerLine (line.TheVariants.Time ticks) = IsTicks ticks
 IsAnswerLine (line.TheVariants.Link l) = HasLinkNumbers l
 IsAnswerLine (line.TheVariants.Checked phases tasks words) = HasCheckedNumbers phases tasks words
 IsAnswerLine (line.TheVariants.Unbounded phase core pc) = HasUnboundedNumbers phase core pc
+IsAnswerLine (line.TheVariants.Varies word) = IsDataWord word
+IsAnswerLine (line.TheVariants.OpenControl phase core pc) = HasUnboundedNumbers phase core pc
+IsAnswerLine (line.TheVariants.OpenHeld phase core lock) = HasHeldNumbers phase core lock
+IsAnswerLine (line.TheVariants.OpenStuck phase lock) = HasStuckNumbers phase lock
 IsAnswerLine (line.TheVariants.Fixed f) = Unit {0}
 
 -- ---- how it is written
@@ -109,9 +125,27 @@ sum_line value = codes "sum " ++ hexadecimal value ++ newline
 unfoldable pub link_line : Link → List ℕ
 link_line l = codes "link " ++ decimal l.event ++ space ++ event_word l.kind ++ space ++ decimal l.finish ++ newline
 
--- the phase, the core and the pc that the prover names
-unfoldable pub unbounded_line : ℕ → ℕ → ℕ → List ℕ
-unbounded_line phase core pc = codes "unbounded " ++ decimal phase ++ space ++ decimal core ++ space ++ hexadecimal pc ++ newline
+-- a phase, a core and a pc after a name
+unfoldable pub place_line : List ℕ → ℕ → ℕ → ℕ → List ℕ
+place_line name phase core pc = name ++ decimal phase ++ space ++ decimal core ++ space ++ hexadecimal pc ++ newline
+
+-- those that the prover names
+abbrev pub unbounded_line : ℕ → ℕ → ℕ → List ℕ
+unbounded_line phase core pc = place_line (codes "unbounded ") phase core pc
+
+-- a data word that the order of grants may decide
+unfoldable pub varies_line : ℕ → List ℕ
+varies_line word = codes "varies " ++ hexadecimal (268435456 + 4 * word) ++ newline
+
+-- why it is open what the runs have in common
+abbrev pub control_line : ℕ → ℕ → ℕ → List ℕ
+control_line phase core pc = place_line (codes "open control ") phase core pc
+
+abbrev pub held_line : ℕ → ℕ → ℕ → List ℕ
+held_line phase core lock = three_line (codes "open held ") phase core lock
+
+abbrev pub stuck_line : ℕ → ℕ → List ℕ
+stuck_line phase lock = pair_fields (codes "open stuck ") [] 10 phase lock
 
 -- lines without a number
 abbrev pub fixed_line : FixedLine → List ℕ
@@ -133,6 +167,10 @@ answer_line (line.TheVariants.Time ticks) = count_line (codes "time ") ticks
 answer_line (line.TheVariants.Link l) = link_line l
 answer_line (line.TheVariants.Checked phases tasks words) = three_line (codes "checked ") phases tasks words
 answer_line (line.TheVariants.Unbounded phase core pc) = unbounded_line phase core pc
+answer_line (line.TheVariants.Varies word) = varies_line word
+answer_line (line.TheVariants.OpenControl phase core pc) = control_line phase core pc
+answer_line (line.TheVariants.OpenHeld phase core lock) = held_line phase core lock
+answer_line (line.TheVariants.OpenStuck phase lock) = stuck_line phase lock
 answer_line (line.TheVariants.Fixed f) = fixed_line f
 
 -- ---- the end of a task's line, part by part
@@ -210,9 +248,17 @@ all_counts =
 abbrev pub kind_front : EventKind → List ℕ
 kind_front k = event_word k ++ codes " "
 
-pub record StandUnbounded (bytes : List ℕ) (phase core pc : ℕ) (rest : List ℕ) : Type 0 where
+pub record StandPlace (name bytes : List ℕ) (phase core pc : ℕ) (rest : List ℕ) : Type 0 where
   pub numbers : HasUnboundedNumbers phase core pc
-  pub parts : bytes ≡ unbounded_line phase core pc ++ rest
+  pub parts : bytes ≡ place_line name phase core pc ++ rest
+
+-- the lines on what runs have in common
+abbrev pub IsOpenLine : AnswerLine → Type 0
+IsOpenLine (line.TheVariants.Varies word) = IsDataWord word
+IsOpenLine (line.TheVariants.OpenControl phase core pc) = HasUnboundedNumbers phase core pc
+IsOpenLine (line.TheVariants.OpenHeld phase core lock) = HasHeldNumbers phase core lock
+IsOpenLine (line.TheVariants.OpenStuck phase lock) = HasStuckNumbers phase lock
+IsOpenLine _ = ⊥
 
 -- the lines that are tried after those of a run's answer
 abbrev pub IsOtherLine : AnswerLine → Type 0
@@ -221,5 +267,9 @@ IsOtherLine (line.TheVariants.Time ticks) = IsTicks ticks
 IsOtherLine (line.TheVariants.Link l) = HasLinkNumbers l
 IsOtherLine (line.TheVariants.Checked phases tasks words) = HasCheckedNumbers phases tasks words
 IsOtherLine (line.TheVariants.Unbounded phase core pc) = HasUnboundedNumbers phase core pc
+IsOtherLine (line.TheVariants.Varies word) = IsDataWord word
+IsOtherLine (line.TheVariants.OpenControl phase core pc) = HasUnboundedNumbers phase core pc
+IsOtherLine (line.TheVariants.OpenHeld phase core lock) = HasHeldNumbers phase core lock
+IsOtherLine (line.TheVariants.OpenStuck phase lock) = HasStuckNumbers phase lock
 IsOtherLine (line.TheVariants.Fixed f) = Unit {0}
 IsOtherLine _ = ⊥

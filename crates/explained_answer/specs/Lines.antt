@@ -66,6 +66,45 @@ unproven_at text task None = []
 abbrev pub unproven_text : List ℕ → Places → ℕ → ℕ → ℕ → List ℕ
 unproven_text text places phase core pc = unproven_at text (find (is_task_of phase core) places.tasks) (code_place_at places pc)
 
+-- what can be done where it is open what the runs have in common
+unfoldable pub sweep_advice : List ℕ
+sweep_advice = codes "  `./sweep --form answers` runs the program by many seeds, and lists which answers came and how often.\n"
+
+-- a word that the order of grants may decide
+unfoldable pub varying_word : Located → ℕ → List ℕ
+varying_word l word = indent ++ word_text l.program.regions word ++ codes ": the order of grants may decide its value.\n"
+
+unfoldable pub control_warning : List ℕ
+control_warning = codes "  What it does may depend on the order of grants: a register that it reads holds what this order may decide. So the runs aren't followed further.\n"
+
+-- where the instruction stands at which control is open
+unfoldable pub control_text : List ℕ → Places → ℕ → ℕ → ℕ → List ℕ
+control_text text places phase core pc = unproven_text text places phase core pc ++ control_warning ++ sweep_advice
+
+unfoldable pub the_task : List ℕ
+the_task = codes "  The task"
+
+unfoldable pub that_line : ℕ → List ℕ
+that_line line = codes " that line " ++ decimal line ++ codes " declares"
+
+abbrev pub declared_by : Option TaskPlace → List ℕ
+declared_by (Some t) = that_line t.line
+declared_by None = []
+
+-- the task that ends with a lock, and what follows
+unfoldable pub held_text : Located → ℕ → ℕ → ℕ → List ℕ
+held_text l phase core lock =
+    the_task ++ declared_by (find (is_task_of phase core) l.places.tasks) ++ codes " ends while it holds " ++ lock_text l.program.locks lock
+    ++ codes ", and another task of the phase takes this lock. If that one comes later, it waits for ever.\n  Release the lock before the task ends.\n"
+    ++ sweep_advice
+
+-- the lock that is on a cycle, and what follows
+unfoldable pub stuck_text : Located → ℕ → List ℕ
+stuck_text l lock =
+    indent ++ lock_text l.program.locks lock
+    ++ codes ": in some order of grants tasks may hold locks and wait for each other's in a cycle, and this lock is on it.\n  Let all tasks of the phase take their locks in one order.\n"
+    ++ sweep_advice
+
 -- what is said after a line: for a task that didn't finish, why; for an instruction, where it stands; otherwise the names of
 -- words and locks. `still` has what is known of the line's task, if it waits or is out of fuel; `named` is the cause of an outcome, or
 -- the task that holds the lock for which the line's task waits, if it ended
@@ -80,6 +119,10 @@ sentences_behind text l still named (line.TheVariants.Sum value) = []
 sentences_behind text l still named (line.TheVariants.Time ticks) = []
 sentences_behind text l still named (line.TheVariants.Link k) = []
 sentences_behind text l still named (line.TheVariants.Checked phases tasks words) = []
+sentences_behind text l still named (line.TheVariants.Varies word) = varying_word l word
+sentences_behind text l still named (line.TheVariants.OpenControl phase core at) = control_text text l.places phase core at
+sentences_behind text l still named (line.TheVariants.OpenHeld phase core lock) = held_text l phase core lock
+sentences_behind text l still named (line.TheVariants.OpenStuck phase lock) = stuck_text l lock
 sentences_behind text l still named (line.TheVariants.Fixed f) = []
 
 -- a line of an answer that has these lines, and whose run tells this, and what is said after it
@@ -130,6 +173,10 @@ fits_program l (line.TheVariants.Grant g) = has_task l g.phase.0 g.core.0 && has
 fits_program l (line.TheVariants.Count c number) = count_is_of l c number
 fits_program l (line.TheVariants.Checked phases tasks words) = is_size_of l.program phases tasks words
 fits_program l (line.TheVariants.Unbounded phase core pc) = has_task l phase core && is_some (code_place_at l.places pc)
+fits_program l (line.TheVariants.Varies word) = nat_lt word (length l.program.memory)
+fits_program l (line.TheVariants.OpenControl phase core pc) = has_task l phase core && is_some (code_place_at l.places pc)
+fits_program l (line.TheVariants.OpenHeld phase core lock) = has_task l phase core && has_named_lock l lock
+fits_program l (line.TheVariants.OpenStuck phase lock) = nat_lt phase (length l.program.phases) && has_named_lock l lock
 fits_program l _ = true
 
 pub record IsLineOf (l : Located) (x : AnswerLine) : Type 0 where

@@ -73,5 +73,14 @@ pub enum AnswerLine {
     Checked { phases: u32, tasks: u32, words: u32 },
     /// The prover can't say that the instruction at this address only uses what its task declares.
     Unbounded { phase: u32, core: u32, pc: u32 },
+    /// The order of grants may decide the data word of this number, below 65,536.
+    Varies { word: u32 },
+    /// It is open what the runs have in common: what the instruction at this address does depends on a value that the order of grants
+    /// may decide;
+    OpenControl { phase: u32, core: u32, pc: u32 },
+    /// or the task ends while it holds a lock that another one takes;
+    OpenHeld { phase: u32, core: u32, lock: u32 },
+    /// or the lock is on a cycle of locks.
+    OpenStuck { phase: u32, lock: u32 },
     Fixed(FixedLine),
 }

@@ -2,12 +2,12 @@
 ghost use Rattle.std.specs.Prelude.{IfSome, IfNone};
 ghost use Rattle.run_report.specs.Grants.{grant_line};
 ghost use Rattle.text_pieces.specs.Field.{Stands, NoneStands};
-ghost use Rattle.explained_answer.specs.AnswerLines.{HasGrantNumbers, IsAnswerLine, IsOtherLine, answer_line};
+ghost use Rattle.explained_answer.specs.AnswerLines.{HasGrantNumbers, IsAnswerLine, IsOpenLine, IsOtherLine, answer_line};
 
 use crate::line::AnswerLine;
 use crate::long::ticks;
-use crate::numbers::three_numbers;
-use crate::programs::{fixed_line, sum, unbounded_line};
+use crate::numbers::{three_numbers, two_numbers};
+use crate::programs::{fixed_line, place_line, sum, varies};
 use crate::tasks::task;
 use crate::timing::link;
 use crate::words::{count, outcome, word};
@@ -27,6 +27,24 @@ fn grant(bytes: &[u8]) -> Option<(Grant, &[u8])>
     Some((grant, rest))
 }
 
+/// The line on what runs have in common that stands at the start of some bytes, and what follows it.
+fn read_open(bytes: &[u8]) -> Option<(AnswerLine, &[u8])>
+    ensures some { IfSome result (λ f. Stands IsAnswerLine answer_line bytes.now f.0 f.1.now) }
+    ensures none { IfNone result (NoneStands IsOpenLine answer_line bytes.now) }
+{
+    if let Some((word, rest)) = varies(bytes) {
+        return Some((AnswerLine::Varies { word }, rest));
+    }
+    if let Some((phase, core, pc, rest)) = place_line(bytes, b"open control ") {
+        return Some((AnswerLine::OpenControl { phase, core, pc }, rest));
+    }
+    if let Some((phase, core, lock, rest)) = three_numbers(bytes, b"open held ") {
+        return Some((AnswerLine::OpenHeld { phase, core, lock }, rest));
+    }
+    let (phase, lock, rest) = two_numbers(bytes, b"open stuck ", b"", b'\n')?;
+    Some((AnswerLine::OpenStuck { phase, lock }, rest))
+}
+
 /// The line on a program, a sum, a time or a refusal that stands at the start of some bytes, and what follows it.
 fn read_other(bytes: &[u8]) -> Option<(AnswerLine, &[u8])>
     ensures some { IfSome result (λ f. Stands IsAnswerLine answer_line bytes.now f.0 f.1.now) }
@@ -42,7 +60,7 @@ fn read_other(bytes: &[u8]) -> Option<(AnswerLine, &[u8])>
             rest,
         ));
     }
-    if let Some((phase, core, pc, rest)) = unbounded_line(bytes) {
+    if let Some((phase, core, pc, rest)) = place_line(bytes, b"unbounded ") {
         return Some((AnswerLine::Unbounded { phase, core, pc }, rest));
     }
     if let Some((value, rest)) = sum(bytes) {
@@ -54,8 +72,10 @@ fn read_other(bytes: &[u8]) -> Option<(AnswerLine, &[u8])>
     if let Some((link, rest)) = link(bytes) {
         return Some((AnswerLine::Link(link), rest));
     }
-    let (line, rest) = fixed_line(bytes)?;
-    Some((AnswerLine::Fixed(line), rest))
+    if let Some((line, rest)) = fixed_line(bytes) {
+        return Some((AnswerLine::Fixed(line), rest));
+    }
+    read_open(bytes)
 }
 
 /// Reads a line of an answer at the start of some bytes. Gives it and the bytes after it; None if no such line stands there.

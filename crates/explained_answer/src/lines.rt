@@ -4,7 +4,7 @@ ghost use Rattle.sentences.specs.Endings.{place_behind};
 ghost use Rattle.sentences.specs.Told.{AreTold};
 ghost use Rattle.sentences.specs.Quotes.{AreSpans};
 ghost use Rattle.explained_answer.specs.AnswerLines.{answer_line};
-ghost use Rattle.explained_answer.specs.Lines.{named_word, named_lock, which_line, declared_there, task_there, the_instruction, at_its_place, instruction_there, unproven_text, sentences_behind};
+ghost use Rattle.explained_answer.specs.Lines.{named_word, named_lock, which_line, declared_there, task_there, the_instruction, at_its_place, instruction_there, unproven_text, sweep_advice, varying_word, control_warning, control_text, the_task, that_line, declared_by, held_text, stuck_text, sentences_behind};
 
 use crate::AnswerLine;
 use crate::causes::{push_ended_holder, push_outcome};
@@ -119,6 +119,116 @@ fn push_unproven(
     }
 }
 
+/// Adds what can be done where it is open what the runs have in common.
+#[tactic(auto, unfolding(crate::specs::Lines::sweep_advice))]
+fn push_sweep_advice(out: &mut Vec<u8>) -> Result<(), Memory>
+    ensures { OnOk result (out.new.items ≡ out.old.items ++ sweep_advice) }
+{
+    push(
+        out,
+        b"  `./sweep --form answers` runs the program by many seeds, and lists which answers came and how often.\n",
+    )
+}
+
+/// Adds the name of a word that the order of grants may decide.
+#[tactic(auto, unfolding(crate::specs::Lines::varying_word))]
+fn push_varying_word(out: &mut Vec<u8>, located: &Located, word: u32) -> Result<(), Memory>
+    ensures { OnOk result (out.new.items ≡ out.old.items ++ varying_word located.now word) }
+{
+    push(out, b"  ")?;
+    push_word(out, &located.program, word)?;
+    push(out, b": the order of grants may decide its value.\n")
+}
+
+#[tactic(auto, unfolding(crate::specs::Lines::control_warning))]
+fn push_control_warning(out: &mut Vec<u8>) -> Result<(), Memory>
+    ensures { OnOk result (out.new.items ≡ out.old.items ++ control_warning) }
+{
+    push(
+        out,
+        b"  What it does may depend on the order of grants: a register that it reads holds what this order may decide. So the runs aren't followed further.\n",
+    )
+}
+
+/// Adds where the instruction stands at which control is open.
+#[tactic(auto, unfolding(crate::specs::Lines::control_text))]
+fn push_control(
+    out: &mut Vec<u8>,
+    text: &[u8],
+    spans: &[Span],
+    places: &Places,
+    task: (u32, u32),
+    pc: u32,
+) -> Result<(), Memory>
+    requires { AreSpans text.now spans.now }
+    ensures { OnOk result (out.new.items ≡ out.old.items ++ control_text text.now places.now task.0 task.1 pc) }
+{
+    push_unproven(out, text, spans, places, task, pc)?;
+    push_control_warning(out)?;
+    push_sweep_advice(out)
+}
+
+#[tactic(auto, unfolding(crate::specs::Lines::the_task))]
+fn push_the_task(out: &mut Vec<u8>) -> Result<(), Memory>
+    ensures { OnOk result (out.new.items ≡ out.old.items ++ the_task) }
+{
+    push(out, b"  The task")
+}
+
+#[tactic(auto, unfolding(crate::specs::Lines::that_line))]
+fn push_that_line(out: &mut Vec<u8>, line: u32) -> Result<(), Memory>
+    ensures { OnOk result (out.new.items ≡ out.old.items ++ that_line line) }
+{
+    push(out, b" that line ")?;
+    push_decimal(out, line)?;
+    push(out, b" declares")
+}
+
+fn push_declared_by(out: &mut Vec<u8>, task: Option<TaskPlace>) -> Result<(), Memory>
+    ensures { OnOk result (out.new.items ≡ out.old.items ++ declared_by task) }
+{
+    match task {
+        Some(place) => push_that_line(out, place.line),
+        None => Ok(()),
+    }
+}
+
+/// Adds which task ends with a lock, and what follows.
+#[tactic(auto, unfolding(crate::specs::Lines::held_text))]
+fn push_held(
+    out: &mut Vec<u8>,
+    located: &Located,
+    phase: u32,
+    core: u32,
+    lock: u32,
+) -> Result<(), Memory>
+    ensures { OnOk result (out.new.items ≡ out.old.items ++ held_text located.now phase core lock) }
+{
+    push_the_task(out)?;
+    push_declared_by(out, located.places.task(phase as usize, core))?;
+    push(out, b" ends while it holds ")?;
+    push_lock(out, located.program.locks.as_slice(), lock as usize)?;
+    push(
+        out,
+        b", and another task of the phase takes this lock. If that one comes later, it waits for ever.\n  Release the lock before the task ends.\n",
+    )?;
+    push_sweep_advice(out)
+}
+
+/// Adds which lock is on a cycle, and what follows.
+#[tactic(auto, unfolding(crate::specs::Lines::stuck_text))]
+fn push_stuck(out: &mut Vec<u8>, located: &Located, lock: u32) -> Result<(), Memory>
+    ensures { OnOk result (out.new.items ≡ out.old.items ++ stuck_text located.now lock) }
+{
+    push(out, b"  ")?;
+    push_lock(out, located.program.locks.as_slice(), lock as usize)?;
+    push(
+        out,
+        b": in some order of grants tasks may hold locks and wait for each other's in a cycle, and this lock is on it.\n  Let all tasks of the phase take their locks in one order.\n",
+    )?;
+    push_sweep_advice(out)
+}
+
 /// Adds what is said after a line of an answer. `still` has what is known of the line's task, and `named` is the cause of an outcome,
 /// or the task that holds the lock for which the line's task waits, if it ended.
 fn push_sentences<'a>(
@@ -148,6 +258,17 @@ fn push_sentences<'a>(
             core,
             pc: at,
         } => push_unproven(out, text, spans, &located.places, (phase, core), at),
+        AnswerLine::Varies { word } => push_varying_word(out, located, word),
+        AnswerLine::OpenControl {
+            phase,
+            core,
+            pc: at,
+        } => push_control(out, text, spans, &located.places, (phase, core), at),
+        AnswerLine::OpenHeld { phase, core, lock } => push_held(out, located, phase, core, lock),
+        AnswerLine::OpenStuck {
+            phase: _phase,
+            lock,
+        } => push_stuck(out, located, lock),
         AnswerLine::Count { .. }
         | AnswerLine::Sum { .. }
         | AnswerLine::Time { .. }

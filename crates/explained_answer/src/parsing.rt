@@ -99,6 +99,16 @@ fn fits_program(located: &Located, line: AnswerLine) -> bool
         AnswerLine::Unbounded { phase, core, pc } => {
             has_task(located, phase, core) && code_place_at(&located.places, pc).is_some()
         }
+        AnswerLine::Varies { word } => (word as usize) < located.program.memory.len(),
+        AnswerLine::OpenControl { phase, core, pc } => {
+            has_task(located, phase, core) && code_place_at(&located.places, pc).is_some()
+        }
+        AnswerLine::OpenHeld { phase, core, lock } => {
+            has_task(located, phase, core) && has_named_lock(located, lock)
+        }
+        AnswerLine::OpenStuck { phase, lock } => {
+            (phase as usize) < located.program.phases.len() && has_named_lock(located, lock)
+        }
         AnswerLine::Sum { .. }
         | AnswerLine::Time { .. }
         | AnswerLine::Link(_)

@@ -4,10 +4,11 @@ ghost use Rattle.text_pieces.specs.Field.{Stands, NoneStands};
 ghost use Rattle.text_pieces.specs.Base16.{IsWord};
 ghost use Rattle.explained_answer.specs.declared.line.FixedLine.{FixedLine as FixedLineOf};
 ghost use Rattle.explained_answer.specs.Parts.{hexadecimal_line};
-ghost use Rattle.explained_answer.specs.AnswerLines.{sum_line, StandUnbounded, fixed_line};
+ghost use Rattle.explained_answer.specs.AnswerLines.{sum_line, StandPlace, fixed_line, varies_line, IsDataWord};
 
 use crate::line::FixedLine;
 use crate::numbers::two_numbers;
+use crate::words::shown_word;
 use text_pieces::{behind, hexadecimal};
 
 /// The number of 32 bits in base 16 that stands at the start of some bytes before a newline, and what follows it.
@@ -29,14 +30,25 @@ pub(crate) fn sum(bytes: &[u8]) -> Option<(u32, &[u8])>
     hexadecimal_line(at_value)
 }
 
-/// The phase, core and pc that the prover names at the start of some bytes, and what follows them.
-pub(crate) fn unbounded_line(bytes: &[u8]) -> Option<(u32, u32, u32, &[u8])>
-    ensures some { IfSome result (λ f. StandUnbounded bytes.now f.0 f.1 f.2 f.3.now) }
-    ensures none { IfNone result ((p c a : ℕ) (rest : List ℕ) → StandUnbounded bytes.now p c a rest → ⊥) }
+/// The phase, core and pc whose line with this name stands at the start of some bytes, and what follows it.
+pub(crate) fn place_line<'a>(bytes: &'a [u8], name: &[u8]) -> Option<(u32, u32, u32, &'a [u8])>
+    ensures some { IfSome result (λ f. StandPlace name.now bytes.now f.0 f.1 f.2 f.3.now) }
+    ensures none { IfNone result ((p c a : ℕ) (rest : List ℕ) → StandPlace name.now bytes.now p c a rest → ⊥) }
 {
-    let (phase, core, at_pc) = two_numbers(bytes, b"unbounded ", b"", b' ')?;
+    let (phase, core, at_pc) = two_numbers(bytes, name, b"", b' ')?;
     let (pc, rest) = hexadecimal_line(at_pc)?;
     Some((phase, core, pc, rest))
+}
+
+/// The data word that varies whose line stands at the start of some bytes, and what follows it.
+pub(crate) fn varies(bytes: &[u8]) -> Option<(u32, &[u8])>
+    ensures some { IfSome result (λ f. Stands IsDataWord varies_line bytes.now f.0 f.1.now) }
+    ensures none { IfNone result (NoneStands IsDataWord varies_line bytes.now) }
+{
+    let at_address = behind(bytes, b"varies ")?;
+    let (address, rest) = hexadecimal_line(at_address)?;
+    let word = shown_word(address, 1)?;
+    Some((word, rest))
 }
 
 /// The line without a number that stands at the start of some bytes, and what follows it.

@@ -49,7 +49,7 @@ fn address(bytes: &[u8]) -> Option<(u32, u32, &[u8])>
 }
 
 /// The data word at an address, where a line may show it with this value.
-fn shown_word(address: u32, value: u32) -> Option<u32>
+pub(crate) fn shown_word(address: u32, value: u32) -> Option<u32>
     ensures some { IfSome result (λ w. (address ≡ 268435456 + 4 * w) × (w < MOST_WORDS) × (0 < value)) }
     ensures none { IfNone result ((w : ℕ) → w < MOST_WORDS → address ≡ 268435456 + 4 * w → 0 < value → ⊥) }
 {

@@ -106,9 +106,9 @@ addressed_lines address [] = []
 addressed_lines address (w ∷ ws) = addressed_line address w ∷ addressed_lines (address + 4) ws
 
 -- the lines of the code, with addresses or without
-abbrev pub lines_of_code : Bool → List ℕ → List (List ℕ)
-lines_of_code false code = map code_line code
-lines_of_code true code = addressed_lines FIRST_CODE_ADDRESS code
+abbrev pub code_lines : Bool → List ℕ → List (List ℕ)
+code_lines false code = map code_line code
+code_lines true code = addressed_lines FIRST_CODE_ADDRESS code
 
 -- the listing of a program with the address of each code word; the first one's is 0x1000
 unfoldable pub listed_lines_with_addresses : ProgramParts → List (List ℕ)

@@ -8,7 +8,7 @@ ghost use Rattle.rv_assembler.specs.Source.{source};
 ghost use Rattle.rv_listing.specs.Statement.{hexadecimal, statement};
 ghost use Rattle.rv_listing.specs.Instruction.{code_line};
 ghost use Rattle.rv_listing.specs.Law.{AreCodeWords, AreDeclaredNames, HasWords, IsOfWords, FitsSourceLimits};
-ghost use Rattle.rv_listing.specs.Listing.{addressed_lines, lines_of_code, lines_with, listing_with_addresses, text_of, version_lines, region_line, value_line, value_lines, region_values, lock_line, task_line, task_lines, phase_lines, listed_lines, listing_of};
+ghost use Rattle.rv_listing.specs.Listing.{addressed_lines, code_lines, lines_with, listing_with_addresses, text_of, version_lines, region_line, value_line, value_lines, region_values, lock_line, task_line, task_lines, phase_lines, listed_lines, listing_of};
 
 use crate::effects::push_effects;
 use crate::instruction::{push_addressed_code, push_code};
@@ -221,7 +221,7 @@ fn push_addressed(out: &mut Vec<u8>, first: u32, code: &[u32]) -> Result<(), Mem
 /// Adds the lines of the code, with addresses or without.
 fn push_code_lines(out: &mut Vec<u8>, code: &[u32], addresses: bool) -> Result<(), Memory>
     requires { length code.now ≤ 16384 }
-    ensures lines { OnOk result (out.new.items ≡ out.old.items ++ text_of (lines_of_code addresses code.now)) }
+    ensures lines { OnOk result (out.new.items ≡ out.old.items ++ text_of (code_lines addresses code.now)) }
     ensures words { IfOk result (λ _. AreCodeWords code.now) }
 {
     if addresses {
@@ -233,7 +233,7 @@ fn push_code_lines(out: &mut Vec<u8>, code: &[u32], addresses: bool) -> Result<(
 
 /// The text of a program that is well formed, with numbers of 32 bits and canonical sets of words.
 fn program_text(alloc: Global, program: &Program, addresses: bool) -> Result<Vec<u8>, Memory>
-    ensures text { IfOk result (λ text. text.items ≡ text_of (lines_with (lines_of_code addresses program.now.code) program.now)) }
+    ensures text { IfOk result (λ text. text.items ≡ text_of (lines_with (code_lines addresses program.now.code) program.now)) }
     ensures well_formed { IfOk result (λ _. IsProgram program.now) }
     ensures words { IfOk result (λ _. HasWords program.now) }
 {

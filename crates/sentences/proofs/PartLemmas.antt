@@ -57,7 +57,7 @@ use Rattle.sentences.specs.Known.{known_in}
 use Rattle.sentences.specs.Marks.{part_by, bad_place_from, is_high, IsPartOf}
 use Rattle.sentences.specs.Operands.{before_comma, behind_comma, part_over, is_mended_by, wrong_part, wrong_operand, wrong_among, found_sort, sorts_of}
 use Rattle.sentences.specs.Standing.{standing_in}
-use Rattle.sentences.specs.Findings.{version_for_line, said_alone, finding_at, behind_label, at_word, is_number_token, at_number, is_number_behind, interval_part, interval_from, at_interval, at_byte, at_part, code_out_of_range, out_of_range_at, declared_finding, is_before, declared_token, doubled_token, known_token, declared_at_token, doubled_at, is_known_region, want_of_code, want_of_effect, want_of, unknown_finding, unknown_if_any, unknown_at, standing_finding, misplaced_at, excess, at_word_if, limit_at, operand_or_word, operands_finding, at_first, dotted_label, label_or_statement, operand_at, finding_by, finding_on, finding_in, finding_of}
+use Rattle.sentences.specs.Findings.{version_for_line, said_alone, finding_at, behind_label, at_word, is_number_token, at_number, is_number_behind, interval_part, interval_from, at_interval, at_byte, at_part, code_out_of_range, out_of_range_at, declared_finding, is_before, declared_token, doubled_token, known_token, declared_at_token, doubled_at, is_known_region, want_of_code, want_of_effect, want_of, unknown_finding, unknown_if_any, unknown_at, standing_finding, misplaced_at, excess, at_word_if, limit_at, operand_or_word, operands_finding, at_first, dotted_label, label_or_statement, operand_at, unknown_word, finding_by, finding_on, finding_in, finding_of}
 
 some-is : {X : Type 0} (a b : X) → Some a ≡ Some b → a ≡ b
 some-is a b e = same_Some a b e
@@ -663,7 +663,7 @@ module _ (bytes : List ℕ) where
   line-finding text l (fault.TheVariants.BadByte line) o = by-reading text l (fault.TheVariants.BadByte line) o
   line-finding text l (fault.TheVariants.BadNumber line) o = by-reading text l (fault.TheVariants.BadNumber line) o
   line-finding text l (fault.TheVariants.LineLimit line) o = by-reading text l (fault.TheVariants.LineLimit line) o
-  line-finding text l (fault.TheVariants.UnknownWord line) o = word-lies l.tokens o cause.TheVariants.Word
+  line-finding text l (fault.TheVariants.UnknownWord line) o = word-lies l.tokens o (unknown_word l.tokens)
   line-finding text l (fault.TheVariants.BadOperand line) o = operand-lies l.tokens o (version_for_line text)
   line-finding text l (fault.TheVariants.OutOfRange line) o = by-reading text l (fault.TheVariants.OutOfRange line) o
   line-finding text l (fault.TheVariants.DoubleName line) o = by-reading text l (fault.TheVariants.DoubleName line) o

@@ -56,6 +56,9 @@ spelling word.Sub = codes "sub"
 spelling word.Load = codes "lw"
 spelling word.Store = codes "sw"
 spelling word.JumpAndLink = codes "jal"
+spelling word.JumpRegister = codes "jalr"
+spelling word.FenceWord = codes "fence"
+spelling word.Family = codes ".forall"
 
 abbrev pub instead : Elsewhere → List ℕ
 instead word.Data = codes "This language has no sections: `.region NAME, N` declares N words of data, and `.word NAME, INDEX, VALUE` gives one its first value."
@@ -95,8 +98,8 @@ instead word.Divide = codes "This language has no multiplication and no division
 instead word.DivideUnsigned = codes "This language has no multiplication and no division: add in a loop, or shift by `slli` and `srli`."
 instead word.Remainder = codes "This language has no multiplication and no division: add in a loop, or shift by `slli` and `srli`."
 instead word.RemainderUnsigned = codes "This language has no multiplication and no division: add in a loop, or shift by `slli` and `srli`."
-instead word.ReadControl = codes "This language has no control registers: leave it out."
-instead word.WriteControl = codes "This language has no control registers: leave it out."
+instead word.ReadControl = codes "There are no control registers such as `mhartid`: `.task` gives a task its argument, for example its core's number, and the task finds it in a0."
+instead word.WriteControl = codes "There are no control registers such as `mhartid`: `.task` gives a task its argument, for example its core's number, and the task finds it in a0."
 instead word.LoadReserved = codes "This language has no atomic instructions: acquire a lock by `ecall`, load and store, and release it."
 instead word.StoreConditional = codes "This language has no atomic instructions: acquire a lock by `ecall`, load and store, and release it."
 instead word.AtomicAdd = codes "This language has no atomic instructions: acquire a lock by `ecall`, load and store, and release it."
@@ -110,6 +113,9 @@ instead word.Sub = codes "`sub` takes registers. `addi` with a negative number s
 instead word.Load = codes "`lw` takes an offset and a register, as in `lw t0, 4(t1)`. `la` puts the address of a region into the register first."
 instead word.Store = codes "`sw` takes an offset and a register, as in `sw t0, 4(t1)`. `la` puts the address of a region into the register first."
 instead word.JumpAndLink = codes "`jal` takes the register for the return address first: `jal ra, LABEL`."
+instead word.JumpRegister = codes "`jalr` takes the register for the return address, and then an offset with a register: `jalr ra, 0(t0)`. `jr t0` keeps no return address."
+instead word.FenceWord = codes "Write `fence` alone: it has no operands here."
+instead word.Family = codes "`.forall` takes the first core, the number of tasks, their entry, the argument of the first one and its step, as in `.forall 0, 4, work, 7, 1`. All cores are from 0 to 15. It needs `.version 2` as the first line that isn't blank."
 
 abbrev pub is_spelled : List ℕ → Elsewhere → Bool
 is_spelled bytes w = bytes_eq bytes (spelling w)
@@ -168,6 +174,9 @@ words_elsewhere =
     ∷ word.Load
     ∷ word.Store
     ∷ word.JumpAndLink
+    ∷ word.JumpRegister
+    ∷ word.FenceWord
+    ∷ word.Family
     ∷ []
 
 -- the word that is spelled so, if it is one of these

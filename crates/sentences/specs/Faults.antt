@@ -1,8 +1,9 @@
 -- The sentences on a text that is refused: the line with the fault, what is wrong on it, and how to fix it. Each line is
 -- indented, which tells it from the lines of an answer.
-use Rattle.std.specs.Prelude.{ℕ, ℤ, ◌||◌, nat_lt, List, [], ◌++◌, length, Option, Some, None, codes, if◌then◌else◌}
+use Rattle.std.specs.Prelude.{ℕ, ℤ, ◌-◌, ◌==◌, Bool, ◌&&◌, ◌||◌, nat_lt, slice_index_or, List, [], ◌++◌, length, Option, Some, None, codes, if◌then◌else◌}
 use Rattle.std.specs.Fmt.{decimal, signed_decimal}
 use Rattle.text_pieces.specs.Pieces.{newline}
+use Rattle.src_text.specs.Byte.{is_digit}
 use Rattle.rv_assembler.specs.declared.fault.SourceFault.{SourceFault}
 use Rattle.rv_assembler.specs.declared.fault.SourceFault as fault
 use Rattle.text_places.specs.Lines.{numbered_line}
@@ -96,6 +97,32 @@ abbrev pub word_amendment : SourceFault → Option Elsewhere → List ℕ
 word_amendment f None = amendment f
 word_amendment f (Some w) = instead w
 
+-- what to write in place of a byte that may not stand outside of comments, by what other assemblers take it for
+abbrev pub byte_amendment : ℕ → List ℕ → List ℕ
+byte_amendment b other =
+    if b == 59 then codes "A line has one statement: begin a new line behind it. A comment begins with `#`."
+    else if b == 47 then codes "A comment begins with `#`: write it in place of `//` or `/*`."
+    else if b == 37 then codes "There is no `%hi` and no `%lo`: `la t0, NAME` puts the address of a region or a label into a register, and `lw t1, 4(t0)` loads behind it."
+    else if b == 43 then codes "There are no sums: `la t0, NAME` puts the address of a region into a register, and `lw t1, 4(t0)` loads the word 4 bytes behind it."
+    else other
+
+-- what begins with a digit and ends with b or f: other assemblers take it for the local label before or behind
+abbrev pub is_local_label : List ℕ → Bool
+is_local_label bs = let last = slice_index_or bs (length bs - 1) 0 in is_digit (slice_index_or bs 0 0) && (last == 98 || last == 102)
+
+abbrev pub number_amendment : List ℕ → List ℕ → List ℕ
+number_amendment bs other = if is_local_label bs then codes "There are no local labels as `1:`: a label is a name, as `l1:`, and `j l1` jumps to it." else other
+
+-- what to write where no word of a statement stands, by what stands there
+abbrev pub no_word_amendment : List ℕ → List ℕ
+no_word_amendment bs = if is_digit (slice_index_or bs 0 0) then codes "There are no local labels as `1:`: a label is a name, as `l1:`, and `j l1` jumps to it." else codes "A line may begin with a label, which is a name and `:`. Then an instruction or a directive stands."
+
+-- how to fix a statement's word, its operands, or what stands in its place
+abbrev pub statement_amendment : SourceFault → List ℕ → Cause → List ℕ
+statement_amendment f word cause.TheVariants.NoWord = no_word_amendment word
+statement_amendment f word cause.TheVariants.SecondLabel = codes "Write the first label on a line of its own."
+statement_amendment f word c = word_amendment f (word_elsewhere word)
+
 -- the word of the statement whose operands are wrong
 abbrev pub word_by : Span → Cause → Span
 word_by p (cause.TheVariants.Operand word w f) = word
@@ -112,9 +139,13 @@ abbrev pub finding_amendment : SourceFault → List ℕ → Option Finding → L
 finding_amendment (fault.TheVariants.OutOfRange line) bytes (Some x) = range_amendment x.cause
 finding_amendment (fault.TheVariants.Misplaced line) bytes (Some x) = place_amendment x.cause
 finding_amendment (fault.TheVariants.UnknownWord line) bytes (Some x) =
-    word_amendment (fault.TheVariants.UnknownWord line) (word_elsewhere (span_between bytes (word_part x)))
+    statement_amendment (fault.TheVariants.UnknownWord line) (span_between bytes (word_part x)) x.cause
 finding_amendment (fault.TheVariants.BadOperand line) bytes (Some x) =
-    word_amendment (fault.TheVariants.BadOperand line) (word_elsewhere (span_between bytes (word_part x)))
+    statement_amendment (fault.TheVariants.BadOperand line) (span_between bytes (word_part x)) x.cause
+finding_amendment (fault.TheVariants.BadByte line) bytes (Some x) =
+    byte_amendment (slice_index_or (span_between bytes x.part) 0 0) (amendment (fault.TheVariants.BadByte line))
+finding_amendment (fault.TheVariants.BadNumber line) bytes (Some x) =
+    number_amendment (span_between bytes x.part) (amendment (fault.TheVariants.BadNumber line))
 finding_amendment f bytes x = amendment f
 
 unfoldable pub indented_line : List ℕ → ℕ → List ℕ
@@ -229,7 +260,8 @@ unfit_text w line s = is_wanted w ++ declared_as line s
 -- what is wrong with a part of the line, where the sentence has no number and no name in it
 abbrev pub plain_cause : Cause → List ℕ
 plain_cause cause.TheVariants.Byte = codes " may not stand here. Outside of comments only blanks, letters, digits and `_ . , : ( ) -` may."
-plain_cause cause.TheVariants.Word = codes " is the word of no statement."
+plain_cause cause.TheVariants.Word = codes " is an unknown instruction or directive."
+plain_cause cause.TheVariants.SecondLabel = codes " is a second label: a line has one at most."
 plain_cause cause.TheVariants.NoWord = codes " stands where the word of a statement is to stand."
 plain_cause cause.TheVariants.Dotted = codes " may not be a label: a name that is declared doesn't begin with `.`."
 plain_cause cause.TheVariants.NoNumber = codes " is no number from -2147483648 to 4294967295."

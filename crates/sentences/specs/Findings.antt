@@ -277,6 +277,15 @@ label_or_statement version bytes ts (Some t) = Some (finding_at cause.TheVariant
 unfoldable pub operand_at : ℕ → List ℕ → List Token → Option Finding
 operand_at version bytes ts = label_or_statement version bytes ts (dotted_label bytes ts)
 
+-- whether the line has a label, and what stands behind it is a name with a colon too
+abbrev pub is_second_label : List Token → Bool
+is_second_label (t ∷ u ∷ v ∷ w ∷ ts) = is_name t.kind && (is_colon u.kind && (is_name v.kind && is_colon w.kind))
+is_second_label _ = false
+
+-- why a word is that of no statement
+abbrev pub unknown_word : List Token → Cause
+unknown_word ts = if is_second_label ts then cause.TheVariants.SecondLabel else cause.TheVariants.Word
+
 -- by what the line says
 abbrev pub finding_by : List ℕ → List ℕ → List Token → Reading → SourceFault → Option Finding
 finding_by text bytes ts (Bad r) f = None
@@ -289,7 +298,7 @@ finding_by text bytes ts (Good s) _ = None
 
 -- by the tokens alone, or else by what the line says
 unfoldable pub finding_on : List ℕ → List ℕ → Line → SourceFault → Option Finding
-finding_on text bytes l (fault.TheVariants.UnknownWord line) = at_word cause.TheVariants.Word l.tokens
+finding_on text bytes l (fault.TheVariants.UnknownWord line) = at_word (unknown_word l.tokens) l.tokens
 finding_on text bytes l (fault.TheVariants.BadOperand line) = operand_at (version_for_line text) bytes l.tokens
 finding_on text bytes l f = finding_by text bytes l.tokens (said_alone text bytes l) f
 

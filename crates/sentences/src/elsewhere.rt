@@ -57,6 +57,9 @@ pub(crate) enum Elsewhere {
     Load,
     Store,
     JumpAndLink,
+    JumpRegister,
+    FenceWord,
+    Family,
 }
 
 const WORDS: &[Elsewhere] = &[
@@ -112,6 +115,9 @@ const WORDS: &[Elsewhere] = &[
     Elsewhere::Load,
     Elsewhere::Store,
     Elsewhere::JumpAndLink,
+    Elsewhere::JumpRegister,
+    Elsewhere::FenceWord,
+    Elsewhere::Family,
 ];
 
 fn words_elsewhere() -> &'static [Elsewhere]
@@ -177,6 +183,9 @@ fn spelling(word: Elsewhere) -> &'static [u8]
         Elsewhere::Load => b"lw",
         Elsewhere::Store => b"sw",
         Elsewhere::JumpAndLink => b"jal",
+        Elsewhere::JumpRegister => b"jalr",
+        Elsewhere::FenceWord => b"fence",
+        Elsewhere::Family => b".forall",
     }
 }
 
@@ -234,7 +243,7 @@ pub(crate) fn instead(word: Elsewhere) -> &'static [u8]
         | Elsewhere::RemainderUnsigned =>
             b"This language has no multiplication and no division: add in a loop, or shift by `slli` and `srli`.",
         Elsewhere::ReadControl | Elsewhere::WriteControl =>
-            b"This language has no control registers: leave it out.",
+            b"There are no control registers such as `mhartid`: `.task` gives a task its argument, for example its core's number, and the task finds it in a0.",
         Elsewhere::LoadReserved
         | Elsewhere::StoreConditional
         | Elsewhere::AtomicAdd
@@ -257,6 +266,11 @@ pub(crate) fn instead(word: Elsewhere) -> &'static [u8]
             b"`sw` takes an offset and a register, as in `sw t0, 4(t1)`. `la` puts the address of a region into the register first.",
         Elsewhere::JumpAndLink =>
             b"`jal` takes the register for the return address first: `jal ra, LABEL`.",
+        Elsewhere::JumpRegister =>
+            b"`jalr` takes the register for the return address, and then an offset with a register: `jalr ra, 0(t0)`. `jr t0` keeps no return address.",
+        Elsewhere::FenceWord => b"Write `fence` alone: it has no operands here.",
+        Elsewhere::Family =>
+            b"`.forall` takes the first core, the number of tasks, their entry, the argument of the first one and its step, as in `.forall 0, 4, work, 7, 1`. All cores are from 0 to 15. It needs `.version 2` as the first line that isn't blank.",
     }
 }
 

@@ -241,7 +241,8 @@ fn plain_cause(cause: Cause) -> &'static [u8]
     match cause {
         Cause::Byte =>
             b" may not stand here. Outside of comments only blanks, letters, digits and `_ . , : ( ) -` may.",
-        Cause::Word => b" is the word of no statement.",
+        Cause::Word => b" is an unknown instruction or directive.",
+        Cause::SecondLabel => b" is a second label: a line has one at most.",
         Cause::NoWord => b" stands where the word of a statement is to stand.",
         Cause::Dotted => b" may not be a label: a name that is declared doesn't begin with `.`.",
         Cause::NoNumber => b" is no number from -2147483648 to 4294967295.",
@@ -280,6 +281,7 @@ fn push_cause(out: &mut Vec<u8>, cause: Cause) -> Result<(), Memory>
         Cause::Unfit { wanted, sort, line } => push_unfit(out, wanted, line, sort),
         Cause::Byte
         | Cause::Word
+        | Cause::SecondLabel
         | Cause::NoWord
         | Cause::Dotted
         | Cause::NoNumber

@@ -12,6 +12,7 @@ use crate::known::{Known, Sort, known_in, token_bytes};
 use crate::marks::{bad_place, high_length, part_by};
 use crate::operands::{
     at_interval, at_number, at_word, code_out_of_range, limit_at, operand_at, tasks_out_of_range,
+    unknown_word,
 };
 use crate::standing::{Standing, standing_in};
 use crate::wrong_operands::WrongOperand;
@@ -46,6 +47,8 @@ pub(crate) enum Cause {
     Byte,
     /// It is no statement's word.
     Word,
+    /// It is a label, and stands behind another one.
+    SecondLabel,
     /// It stands where a word should stand, and isn't one.
     NoWord,
     /// It is a label, and begins with `.`.
@@ -477,7 +480,7 @@ fn finding_on(
     let tokens = line.tokens.as_slice();
     let version = version_for_line(alloc, text)?;
     match fault {
-        SourceFault::UnknownWord { .. } => Ok(at_word(Cause::Word, tokens)),
+        SourceFault::UnknownWord { .. } => Ok(at_word(unknown_word(tokens), tokens)),
         SourceFault::BadOperand { .. } => operand_at(alloc, version, bytes, tokens),
         _ => {
             finding_by(

@@ -1,6 +1,7 @@
 //! What is said of each kind of fault.
-ghost use Rattle.std.specs.Prelude.{◌≡◌};
-ghost use Rattle.sentences.specs.Faults.{faulty_line, complaint, amendment, range_amendment, place_amendment, word_amendment, word_part, finding_amendment};
+ghost use Rattle.std.specs.Prelude.{◌≡◌, slice_index_or};
+ghost use Rattle.src_text.specs.Byte.{is_digit};
+ghost use Rattle.sentences.specs.Faults.{faulty_line, complaint, amendment, range_amendment, place_amendment, word_amendment, byte_amendment, is_local_label, number_amendment, no_word_amendment, statement_amendment, word_part, finding_amendment};
 
 use crate::elsewhere::{Elsewhere, instead, word_elsewhere};
 use crate::findings::{Cause, Finding};
@@ -126,6 +127,76 @@ fn word_amendment(fault: SourceFault, word: Option<Elsewhere>) -> &'static [u8]
     }
 }
 
+/// What to write in place of a byte that may not stand outside of comments, by what other assemblers take it for.
+fn byte_amendment(byte: u8, other: &'static [u8]) -> &'static [u8]
+    ensures { result.now ≡ byte_amendment byte other.now }
+{
+    match byte {
+        b';' => b"A line has one statement: begin a new line behind it. A comment begins with `#`.",
+        b'/' => b"A comment begins with `#`: write it in place of `//` or `/*`.",
+        b'%' =>
+            b"There is no `%hi` and no `%lo`: `la t0, NAME` puts the address of a region or a label into a register, and `lw t1, 4(t0)` loads behind it.",
+        b'+' =>
+            b"There are no sums: `la t0, NAME` puts the address of a region into a register, and `lw t1, 4(t0)` loads the word 4 bytes behind it.",
+        _ => other,
+    }
+}
+
+/// The byte at a place; 0 where there is none.
+fn byte_at(bytes: &[u8], place: usize) -> u8
+    ensures { result ≡ slice_index_or bytes.now place 0 }
+{
+    bytes.get(place).copied().unwrap_or(0)
+}
+
+/// Whether the bytes begin with a digit.
+fn begins_with_digit(bytes: &[u8]) -> bool
+    ensures { result ≡ is_digit (slice_index_or bytes.now 0 0) }
+{
+    byte_at(bytes, 0).is_ascii_digit()
+}
+
+/// What begins with a digit and ends with b or f: other assemblers take it for the local label before or behind.
+fn is_local_label(bytes: &[u8]) -> bool
+    ensures { result ≡ is_local_label bytes.now }
+{
+    let last = byte_at(bytes, bytes.len().saturating_sub(1));
+    begins_with_digit(bytes) && (last == b'b' || last == b'f')
+}
+
+/// What to write in place of what is no number.
+fn number_amendment(bytes: &[u8], other: &'static [u8]) -> &'static [u8]
+    ensures { result.now ≡ number_amendment bytes.now other.now }
+{
+    if is_local_label(bytes) {
+        b"There are no local labels as `1:`: a label is a name, as `l1:`, and `j l1` jumps to it."
+    } else {
+        other
+    }
+}
+
+/// What to write where no word of a statement stands, by what stands there.
+fn no_word_amendment(bytes: &[u8]) -> &'static [u8]
+    ensures { result.now ≡ no_word_amendment bytes.now }
+{
+    if begins_with_digit(bytes) {
+        b"There are no local labels as `1:`: a label is a name, as `l1:`, and `j l1` jumps to it."
+    } else {
+        b"A line may begin with a label, which is a name and `:`. Then an instruction or a directive stands."
+    }
+}
+
+/// How to fix a statement's word, its operands, or what stands in its place.
+fn statement_amendment(fault: SourceFault, word: &[u8], cause: Cause) -> &'static [u8]
+    ensures { result.now ≡ statement_amendment fault word.now cause }
+{
+    match cause {
+        Cause::NoWord => no_word_amendment(word),
+        Cause::SecondLabel => b"Write the first label on a line of its own.",
+        _ => word_amendment(fault, word_elsewhere(word)),
+    }
+}
+
 /// The word of the statement whose operands are wrong; otherwise the part that is wrong.
 fn word_part(finding: Finding) -> Span
     ensures { result ≡ word_part finding }
@@ -152,7 +223,18 @@ pub(crate) fn finding_amendment(
         SourceFault::OutOfRange { .. } => range_amendment(finding.cause),
         SourceFault::Misplaced { .. } => place_amendment(finding.cause),
         SourceFault::UnknownWord { .. } | SourceFault::BadOperand { .. } => {
-            word_amendment(fault, word_elsewhere(bytes_between(bytes, start, end)))
+            statement_amendment(fault, bytes_between(bytes, start, end), finding.cause)
+        }
+        SourceFault::BadByte { .. } => {
+            let Span { start, end } = finding.part;
+            byte_amendment(
+                byte_at(bytes_between(bytes, start, end), 0),
+                amendment(fault),
+            )
+        }
+        SourceFault::BadNumber { .. } => {
+            let Span { start, end } = finding.part;
+            number_amendment(bytes_between(bytes, start, end), amendment(fault))
         }
         _ => amendment(fault),
     }

@@ -5,7 +5,7 @@ ghost use Rattle.rv_assembler.specs.Fault.{are_cores};
 ghost use Rattle.rv_assembler.specs.Operand.{bytes_of};
 ghost use Rattle.sentences.specs.Examples.{form_for};
 ghost use Rattle.rv_assembler.specs.Shape.{is_name, is_colon, is_plain};
-ghost use Rattle.sentences.specs.Findings.{behind_label, at_word, is_number_token, at_number, is_number_behind, interval_part, at_interval, at_range, at_offset, code_out_of_range, tasks_out_of_range, excess, at_word_if, limit_at, operand_or_word, operands_finding, word_or_operands, at_first, dotted_label, operand_at};
+ghost use Rattle.sentences.specs.Findings.{behind_label, at_word, is_second_label, unknown_word, is_number_token, at_number, is_number_behind, interval_part, at_interval, at_range, at_offset, code_out_of_range, tasks_out_of_range, excess, at_word_if, limit_at, operand_or_word, operands_finding, word_or_operands, at_first, dotted_label, operand_at};
 
 use crate::examples::{Form, form_for};
 use crate::findings::{Cause, Finding, finding_at};
@@ -60,6 +60,29 @@ pub(crate) fn at_word(cause: Cause, tokens: &[Token]) -> Option<Finding>
     match behind_label(tokens).get(0) {
         Some(word) => Some(finding_at(cause, *word)),
         None => None,
+    }
+}
+
+/// Whether the line has a label, and what stands behind it is a name with a colon too.
+fn is_second_label(tokens: &[Token]) -> bool
+    ensures { result ≡ is_second_label tokens.now }
+{
+    match tokens {
+        [label, colon, second, behind, ..] => {
+            is_name(*label) && is_colon(*colon) && is_name(*second) && is_colon(*behind)
+        }
+        _ => false,
+    }
+}
+
+/// Why a word is that of no statement.
+pub(crate) fn unknown_word(tokens: &[Token]) -> Cause
+    ensures { result ≡ unknown_word tokens.now }
+{
+    if is_second_label(tokens) {
+        Cause::SecondLabel
+    } else {
+        Cause::Word
     }
 }
 
