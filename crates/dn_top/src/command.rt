@@ -7,7 +7,7 @@ use program_outside::{OptionValue, bare_command, with_options};
 use std::alloc::{AllocError, Global};
 
 /// The options of the command, with their defaults.
-const OPTIONS: [(&str, OptionValue<'_>); 11] = [
+const OPTIONS: [(&str, OptionValue<'_>); 12] = [
     ("mode", OptionValue::Text("run")),
     ("seed", OptionValue::Number("1")),
     ("workers", OptionValue::Number("1")),
@@ -19,9 +19,10 @@ const OPTIONS: [(&str, OptionValue<'_>); 11] = [
     ("tick-core", OptionValue::Number("1")),
     ("tick-bank", OptionValue::Number("10")),
     ("tick-mail", OptionValue::Number("5")),
+    ("order", OptionValue::Text("seed")),
 ];
 
-/// The command with its eleven options.
+/// The command with its twelve options.
 #[tactic(auto, unfolding(crate::specs::Command::command))]
 pub(crate) fn denovo<'a>(alloc: Global) -> Result<Command<'a>, AllocError>
     ensures { IfOk result (λ made. app_of made ≡ command) }
