@@ -1,14 +1,16 @@
 -- The options that command words ask for are within their ranges.
-use Rattle.std.proofs.Common.{◌≡◌, ℕ, ◌&&◌, nat_le, List, [], ◌∷◌, codes, Some, option_and_then, subst}
+use Rattle.std.proofs.Common.{◌≡◌, ℕ, ◌==◌, ◌&&◌, nat_le, List, [], ◌∷◌, codes, Some, option_and_then, subst}
 use Rattle.std.specs.Int.{IsInRange}
-use Rattle.std.proofs.lemmas.Bool.{and_parts, leb-true}
+use Rattle.std.proofs.lemmas.Bool.{and_parts, eqb-true, leb-true}
 use Rattle.std.proofs.lemmas.Option.{none-some, same_Some, cond_some, option_and_then_some}
 use Rattle.clap.specs.Kinds.{Kinds}
-use Rattle.clap.specs.Walk.{Row, Text, one_of}
+use Rattle.clap.specs.Walk.{Row, Text, first_of, one_of}
 use Rattle.dn_top.specs.declared.options.Options.{Options}
 use Rattle.program_outside.specs.Numbers.{if_within, number_in_text}
 use Rattle.program_outside.specs.Words.{faults_in, number_in, switch_in, values_in, where_taken}
-use Rattle.dn_top.specs.Command.{command, mode_in, options_from, options_of, OptionsInRange}
+use Rattle.dn_top.specs.declared.options.Order.{Order}
+use Rattle.dn_top.specs.declared.options.Order.TheVariants.{Seed, Time}
+use Rattle.dn_top.specs.Command.{command, mode_in, order_by, order_in, order_named, options_from, options_of, OptionsInRange}
 
 within-range : (low high number n : ℕ) → if_within low high number ≡ Some n → IsInRange low high n
 within-range low high number n e =
@@ -19,6 +21,15 @@ within-range low high number n e =
 number-range : (rows : List Row) (name : Text) (low high n : ℕ) → number_in rows name low high ≡ Some n → IsInRange low high n
 number-range rows name low high n e =
     option_and_then_some (if_within low high) (option_and_then number_in_text (one_of name rows)) n e (λ number _ is. within-range low high number n is)
+
+-- a run in time order is asked for with one worker alone
+by-alone : (workers : ℕ) (named order : Order) → order_by workers named ≡ Some order → order ≡ Time → workers ≡ 1
+by-alone workers Seed order is time = absurd (cc (same_Some Seed order is, time))
+by-alone workers Time order is time = eqb-true workers 1 (cond_some (workers == 1) Time order is).0
+
+order-alone : (workers : ℕ) (rows : List Row) (order : Order) → order_in workers rows ≡ Some order → order ≡ Time → workers ≡ 1
+order-alone workers rows order is time =
+    option_and_then_some (order_by workers) (option_and_then order_named (first_of (codes "order") rows)) order is (λ named _ here. by-alone workers named order here time)
 
 from-range : (rows : List Row) (o : Options) → options_from rows ≡ Some o → OptionsInRange o
 unfolding options_from
@@ -35,10 +46,12 @@ from-range rows o e =
     option_and_then_some _ (number_in rows (codes "tick-core") 1 1000000) o e8 (λ tick_core h9 e9.
     option_and_then_some _ (number_in rows (codes "tick-bank") 1 1000000) o e9 (λ tick_bank h10 e10.
     option_and_then_some _ (number_in rows (codes "tick-mail") 1 1000000) o e10 (λ tick_mail h11 e11.
+    option_and_then_some _ (order_in workers rows) o e11 (λ order h12 e12.
     let asked : Options =
     record {
       mode = mode;
       addresses = addresses;
+      order = order;
       seed = seed;
       workers = workers;
       banks = banks;
@@ -50,7 +63,7 @@ from-range rows o e =
       tick_bank = tick_bank;
       tick_mail = tick_mail;
     } in
-    subst OptionsInRange (same_Some asked o e11)
+    subst OptionsInRange (same_Some asked o e12)
     (record {
       workers = number-range rows (codes "workers") 1 16 workers h3;
       banks = number-range rows (codes "banks") 1 16 banks h4;
@@ -61,6 +74,7 @@ from-range rows o e =
       tick_core = number-range rows (codes "tick-core") 1 1000000 tick_core h9;
       tick_bank = number-range rows (codes "tick-bank") 1 1000000 tick_bank h10;
       tick_mail = number-range rows (codes "tick-mail") 1 1000000 tick_mail h11;
+      alone = λ is. order-alone workers rows order h12 is;
     })))))))))))))
 
 pub words-range : (words : List Text) (o : Options) → options_of words ≡ Some o → OptionsInRange o

@@ -17,6 +17,7 @@ use Rattle.run_report.specs.Refusal.{check_text, refusal_of}
 use Rattle.run_report.specs.Summary.{checked_of}
 use Rattle.run_report.specs.Texts.{HasProgram, IsNoProgram, IsInConflict, IsUnfit}
 use Rattle.dn_top.specs.declared.options.Mode as mode
+use Rattle.dn_top.specs.declared.options.Order as order
 use Rattle.dn_top.specs.declared.options.Options.{Options}
 use Rattle.text_places.specs.declared.places.Located.{Located}
 use Rattle.dn_top.specs.declared.output.Output.{Output}
@@ -44,6 +45,7 @@ checking =
     record {
       mode = mode.TheVariants.Check;
       addresses = false;
+      order = order.TheVariants.Seed;
       seed = 0;
       workers = 1;
       banks = 1;

@@ -7,7 +7,7 @@ use Rattle.grant_log.proofs.TotalLemmas.{one_counts}
 use Rattle.registration_protocol.specs.Node.{Setting}
 use Rattle.machine_rules.specs.State.{State, initial_state}
 use Rattle.machine_rules.specs.Runs.{kinds_of, grants_of, ending_of_run}
-use Rattle.dn_machine.specs.Run.{IsRecord, IsSeedsRunOf}
+use Rattle.dn_machine.specs.Run.{IsRecord, IsCoherentRun}
 use Rattle.dn_machine.specs.Schedule.{generator_of}
 use Rattle.dn_machine.specs.declared.record.RunRecord.{RunRecord}
 use Rattle.dn_machine.proofs.OneSetting.{same-setting}
@@ -16,10 +16,17 @@ use Rattle.run_timing.specs.declared.timing.Link.{Link}
 use Rattle.run_timing.specs.declared.timing.Timing.{Timing}
 use Rattle.run_timing.specs.Text.{time_line, chain_line, link_line, timing_of}
 use Rattle.run_timing.proofs.OneTiming.{one-timing}
+use Rattle.machine_rules.specs.Sound.{IsReady}
+use Rattle.machine_rules.proofs.OpenedFacts.{opened-setting}
+use Rattle.time_order.specs.Clock.{clock_at_start}
+use Rattle.time_order.proofs.OneOrder.{one-order}
+use Rattle.time_order.proofs.Reached.{reached-first}
+use Rattle.dn_top.specs.declared.options.Order.{Order}
+use Rattle.dn_top.specs.declared.options.Order as order
 use Rattle.dn_top.specs.declared.options.Options.{Options}
 use Rattle.dn_top.specs.declared.output.Output.{Output}
 use Rattle.checked_runs.specs.Runs.{summed_up}
-use Rattle.dn_top.specs.Runs.{shape_for, ticks_for, IsRunFor, IsPrintedRun, IsTimedFor, IsTimedRun, output_of_run}
+use Rattle.dn_top.specs.Runs.{shape_for, ticks_for, no_latency, ArePickedBy, IsPickedRun, IsRunFor, IsPrintedRun, IsTimedFor, IsTimedRun, output_of_run}
 
 -- ---- the run
 
@@ -35,21 +42,29 @@ one-record S r s events each other is also =
     (one_counts (kinds_of S s.events) r.counts s.counts each other (subst (λ (es : List Event). AreCounts (kinds_of S es) r.counts) events is.counted) also.counted)
     (is.ends ∙ ap (λ (es : List Event). ending_of_run S es) events ∙ sym also.ends)
 
--- a state and a seed have one record
-same-record : (S : State) (seed : ℕ) (r s : RunRecord) → length r.counts.kinds ≡ 17 → length s.counts.kinds ≡ 17 → IsSeedsRunOf S seed r → IsSeedsRunOf S seed s → r ≡ s
-same-record S seed r s each other is also =
-    one-record S r s (picked-one S (generator_of seed) r.events s.events is.scheduled also.scheduled) each other is.run.is_true also.run.is_true
+-- by one worker the events are picked in one way
+same-events : (k : Order) (o : Options) (C : Setting) (r s : RunRecord) → ArePickedBy k o (initial_state C) r.events → ArePickedBy k o (initial_state C) s.events → IsCoherentRun (initial_state C) r → IsCoherentRun (initial_state C) s
+    → r.events ≡ s.events
+same-events order.TheVariants.Seed o C r s is also run other = picked-one (initial_state C) (generator_of o.seed) r.events s.events is also
+same-events order.TheVariants.Time o C r s is also run other =
+    let ready : IsReady C = subst IsReady (opened-setting C) is.0 in
+    one-order (ticks_for o) no_latency (initial_state C) clock_at_start r.events s.events (reached-first C ready) is.1 run.complete.over also.1 other.complete.over
 
-by-seed : (P : ProgramParts) (o : Options) (r : RunRecord) (is : IsRunFor P o r) → o.workers ≡ 1 → IsSeedsRunOf (initial_state is.run.setting) o.seed r
-by-seed P o r is one = record { scheduled = is.scheduled one; run = is.run.machine }
+-- so a state and options have one record
+same-record : (o : Options) (C : Setting) (r s : RunRecord) → length r.counts.kinds ≡ 17 → length s.counts.kinds ≡ 17 → IsPickedRun o (initial_state C) r → IsPickedRun o (initial_state C) s → r ≡ s
+same-record o C r s each other is also =
+    one-record (initial_state C) r s (same-events o.order o C r s is.picked also.picked is.run also.run) each other is.run.is_true also.run.is_true
+
+by-one : (P : ProgramParts) (o : Options) (r : RunRecord) (is : IsRunFor P o r) → o.workers ≡ 1 → IsPickedRun o (initial_state is.run.setting) r
+by-one P o r is one = record { run = is.run.machine; picked = is.picked one }
 
 -- a program and options have one run, by one worker
 pub one-run : (P : ProgramParts) (o : Options) (r s : RunRecord) → o.workers ≡ 1 → IsRunFor P o r → IsRunFor P o s → r ≡ s
 one-run P o r s one is also =
     let same : is.run.setting ≡ also.run.setting = same-setting P (shape_for P o) o.fuel is.run.setting also.run.setting is.run.setting_is also.run.setting_is in
-    same-record (initial_state also.run.setting) o.seed r s is.run.each_kind also.run.each_kind
-    (subst (λ (C : Setting). IsSeedsRunOf (initial_state C) o.seed r) same (by-seed P o r is one))
-    (by-seed P o s also one)
+    same-record o also.run.setting r s is.run.each_kind also.run.each_kind
+    (subst (λ (C : Setting). IsPickedRun o (initial_state C) r) same (by-one P o r is one))
+    (by-one P o s also one)
 
 -- so what is printed of it is the same
 pub one-output : (P : ProgramParts) (o : Options) (print : RunRecord → List ℕ) (out other : Output) → o.workers ≡ 1 → IsPrintedRun P o print out → IsPrintedRun P o print other → out ≡ other

@@ -1,5 +1,5 @@
 -- The run of an opened machine is a run of its program, that of the options where these ask for it, and can be printed.
-use Rattle.std.proofs.Common.{◌≡◌, ◌≢◌, ℕ, ◌<◌, List, length, sym, ap, subst, ◌∙◌}
+use Rattle.std.proofs.Common.{◌≡◌, ◌≢◌, ◌<◌, length, sym, ap, subst, ◌∙◌}
 use Rattle.std.specs.List.{All}
 use Rattle.dn_base.specs.declared.ids.Shape.{Shape}
 use Rattle.region_table.specs.Program.{ProgramParts}
@@ -11,7 +11,7 @@ use Rattle.machine_rules.proofs.OpenedFacts.{opened-setting}
 use Rattle.run_agreement.specs.Ends.{HasFlatEnd}
 use Rattle.dn_machine.specs.Kept.{Made, IsKept, IsInitialMachine}
 use Rattle.dn_machine.specs.Settings.{IsSettingOf}
-use Rattle.dn_machine.specs.Run.{IsRecord, IsCoherentRun, IsSeedsRunOf}
+use Rattle.dn_machine.specs.Run.{IsRecord, IsCoherentRun}
 use Rattle.dn_machine.specs.declared.record.RunRecord.{RunRecord}
 use Rattle.dn_machine.proofs.RunLemmas.{ready-of}
 use Rattle.run_replay.specs.Document.{FitsDocument}
@@ -19,7 +19,9 @@ use Rattle.run_replay.proofs.ToldRuns.{run-told}
 use Rattle.checked_runs.specs.Runs.{IsPrintable}
 use Rattle.checked_runs.proofs.RunOf.{run-of, can-print}
 use Rattle.dn_top.specs.declared.options.Options.{Options}
-use Rattle.dn_top.specs.Runs.{shape_for, IsRunFor}
+use Rattle.dn_top.specs.declared.options.Order.{Order}
+use Rattle.dn_top.specs.declared.options.Order.TheVariants.{Seed, Time}
+use Rattle.dn_top.specs.Runs.{shape_for, with_one_worker, ArePickedBy, IsPickedRun, IsRunFor}
 
 -- ---- from what the calls of the machine say
 
@@ -37,19 +39,19 @@ module _ (P : ProgramParts) (o : Options) (m : Made) (r : RunRecord) where
         fuel = at.fuel_is;
       }
 
-  -- the one of a seed
-  pub is-run_by_seed : IsInitialMachine P (shape_for P o) o.fuel m → IsKept m.state m.made → IsSeedsRunOf m.state o.seed r → length r.counts.kinds ≡ 17 → IsRunFor P o r
+  -- one whose events one worker picks
+  pub is-run_by_one : IsInitialMachine P (shape_for P o) o.fuel m → IsKept m.state m.made → IsPickedRun o m.state r → length r.counts.kinds ≡ 17 → IsRunFor P o r
   unfolding run-of
-  is-run_by_seed at kept run each =
-      let there : IsSeedsRunOf (initial_state m.state.setting) o.seed r = at-opened (λ S. IsSeedsRunOf S o.seed r) at run in
-      record { run = run-of P (shape_for P o) o.fuel m.state.setting r (asked-for at kept) there.run run.run.flat each; scheduled = λ _. there.scheduled }
+  is-run_by_one at kept run each =
+      let there : IsPickedRun o (initial_state m.state.setting) r = at-opened (λ S. IsPickedRun o S r) at run in
+      record { run = run-of P (shape_for P o) o.fuel m.state.setting r (asked-for at kept) there.run run.run.flat each; picked = λ _. there.picked }
 
   -- one of several workers
   pub is-run_by_workers : IsInitialMachine P (shape_for P o) o.fuel m → IsKept m.state m.made → IsCoherentRun m.state r → length r.counts.kinds ≡ 17 → o.workers ≢ 1 → IsRunFor P o r
   is-run_by_workers at kept run each several =
       record {
         run = run-of P (shape_for P o) o.fuel m.state.setting r (asked-for at kept) (at-opened (λ S. IsCoherentRun S r) at run) run.flat each;
-        scheduled = λ one. absurd (several one);
+        picked = λ one. absurd (several one);
       }
 
   pub is-printable : IsInitialMachine P (shape_for P o) o.fuel m → IsKept m.state m.made → IsRecord m.state r → HasFlatEnd m.state.setting r.events → length r.counts.kinds ≡ 17
@@ -93,3 +95,10 @@ at-start o C m at none is =
       plans_are = here.one_form;
       made = none;
     }
+
+-- how events are picked by one worker doesn't look at the number of workers
+pub picked-alone : (o : Options) (S : State) (r : RunRecord) → IsPickedRun o S r → IsPickedRun (with_one_worker o) S r
+picked-alone o S r is = record { run = is.run; picked = by_order o.order is.picked } where
+  by_order : (k : Order) → ArePickedBy k o S r.events → ArePickedBy k (with_one_worker o) S r.events
+  by_order Seed h = h
+  by_order Time h = h

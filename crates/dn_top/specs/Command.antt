@@ -1,10 +1,12 @@
 -- The command `denovo`: its options, which command words it takes, and what they ask for.
-use Rattle.std.specs.Prelude.{ℕ, Bool, List, codes, bytes_eq, Option, Some, None, option_and_then, if◌then◌else◌}
+use Rattle.std.specs.Prelude.{◌≡◌, ℕ, ◌==◌, Bool, List, codes, bytes_eq, Option, Some, None, option_and_then, if◌then◌else◌}
 use Rattle.std.specs.Int.{IsInRange}
 use Rattle.clap.specs.Walk.{Row, Text, first_of}
 use Rattle.clap.specs.Simple.{App, new_app, with_rule}
 use Rattle.dn_top.specs.declared.options.Mode.{Mode}
 use Rattle.dn_top.specs.declared.options.Mode as mode
+use Rattle.dn_top.specs.declared.options.Order.{Order}
+use Rattle.dn_top.specs.declared.options.Order as order
 use Rattle.dn_top.specs.declared.options.Options.{Options}
 use Rattle.program_outside.specs.Words.{bare, faults_in, number_in, number_rule, switch_in, text_rule, values_in, where_taken}
 
@@ -23,7 +25,8 @@ command =
     (number_rule (codes "size") (codes "4")))
     (number_rule (codes "tick-core") (codes "1")))
     (number_rule (codes "tick-bank") (codes "10")))
-    (number_rule (codes "tick-mail") (codes "5"))
+    (number_rule (codes "tick-mail") (codes "5")))
+    (text_rule (codes "order") (codes "seed"))
 
 -- the mode with this name
 abbrev pub mode_named : Text → Option Mode
@@ -43,7 +46,24 @@ mode_named text =
 abbrev pub mode_in : List Row → Option Mode
 mode_in rows = option_and_then mode_named (first_of (codes "mode") rows)
 
--- the options that the command's values give, if the mode is one of the nine and each number is in its range
+-- the order with this name
+abbrev pub order_named : Text → Option Order
+order_named text =
+    if bytes_eq text (codes "seed") then Some order.TheVariants.Seed
+    else if bytes_eq text (codes "time") then Some order.TheVariants.Time
+    else None
+
+-- a run in time order is made by one worker
+abbrev pub order_by : ℕ → Order → Option Order
+order_by workers order.TheVariants.Seed = Some order.TheVariants.Seed
+order_by workers order.TheVariants.Time = if workers == 1 then Some order.TheVariants.Time else None
+
+-- the order that the command's values name, for this many workers
+abbrev pub order_in : ℕ → List Row → Option Order
+order_in workers rows = option_and_then (order_by workers) (option_and_then order_named (first_of (codes "order") rows))
+
+-- the options that the command's values give, if the mode is one of the nine, each number is in its range, and a run in time
+-- order has one worker
 unfoldable pub options_from : List Row → Option Options
 options_from rows =
     option_and_then (λ (mode : Mode).
@@ -58,7 +78,9 @@ options_from rows =
     option_and_then (λ (tick_core : ℕ).
     option_and_then (λ (tick_bank : ℕ).
     option_and_then (λ (tick_mail : ℕ).
-    Some (record { mode = mode; addresses = addresses; seed = seed; workers = workers; banks = banks; sets = sets; ways = ways; fuel = fuel; size = size; tick_core = tick_core; tick_bank = tick_bank; tick_mail = tick_mail }))
+    option_and_then (λ (order : Order).
+    Some (record { mode = mode; addresses = addresses; order = order; seed = seed; workers = workers; banks = banks; sets = sets; ways = ways; fuel = fuel; size = size; tick_core = tick_core; tick_bank = tick_bank; tick_mail = tick_mail }))
+    (order_in workers rows))
     (number_in rows (codes "tick-mail") 1 1000000))
     (number_in rows (codes "tick-bank") 1 1000000))
     (number_in rows (codes "tick-core") 1 1000000))
@@ -87,3 +109,4 @@ pub record OptionsInRange (o : Options) : Type 0 where
   pub tick_core : IsInRange 1 1000000 o.tick_core
   pub tick_bank : IsInRange 1 1000000 o.tick_bank
   pub tick_mail : IsInRange 1 1000000 o.tick_mail
+  pub alone : o.order ≡ order.TheVariants.Time → o.workers ≡ 1

@@ -4,14 +4,24 @@ use Rattle.dn_base.specs.declared.ids.Shape.{Shape}
 use Rattle.dn_base.specs.Status.{status_of}
 use Rattle.region_table.specs.Program.{ProgramParts, cores_of}
 use Rattle.machine_rules.specs.State.{initial_state}
+use Rattle.message_net.specs.declared.event.Event.{Event}
+use Rattle.machine_rules.specs.State.{State}
+use Rattle.machine_rules.specs.Sound.{IsReady}
+use Rattle.dn_machine.specs.Run.{IsCoherentRun}
 use Rattle.dn_machine.specs.Schedule.{IsScheduled}
 use Rattle.dn_machine.specs.declared.record.RunRecord.{RunRecord}
+use Rattle.run_timing.specs.declared.network.Net.TheVariants.{Uniform}
+use Rattle.run_timing.specs.declared.network.Network.{Network}
 use Rattle.run_timing.specs.declared.ticks.Ticks.{Ticks}
 use Rattle.run_timing.specs.declared.timing.Timing.{Timing}
 use Rattle.run_timing.specs.Ticks.{AreWithinLimits, ticks_by}
 use Rattle.run_timing.specs.Longest.{IsTimingOf}
 use Rattle.run_timing.specs.Text.{timing_of}
+use Rattle.time_order.specs.Clock.{clock_at_start}
+use Rattle.time_order.specs.TimeOrder.{AreInTimeOrder}
 use Rattle.checked_runs.specs.Runs.{IsRunOf, summed_up}
+use Rattle.dn_top.specs.declared.options.Order.{Order}
+use Rattle.dn_top.specs.declared.options.Order as order
 use Rattle.dn_top.specs.declared.options.Options.{Options}
 use Rattle.dn_top.specs.declared.output.Output.{Output}
 
@@ -25,17 +35,38 @@ with_one_worker o = record o { workers = 1 }
 abbrev pub shape_for : ProgramParts → Options → Shape
 shape_for P o = record { cores = cores_of P; banks = o.banks; sets = o.sets; ways = o.ways }
 
+-- ---- how events are picked
+
+-- the ticks that the options give to the kinds of event: a core's own, those that a bank handles, and all others
+abbrev pub ticks_for : Options → Ticks
+ticks_for o = ticks_by o.tick_core o.tick_bank o.tick_mail
+
+-- messages take no time on their way
+abbrev pub no_latency : Network
+no_latency = record { net = Uniform; latency = 0 }
+
+-- the events from state S on are those that one worker picks: by the words of the seed; or in time order, each as the one that can
+-- start first
+abbrev pub ArePickedBy : Order → Options → State → List Event → Type 0
+ArePickedBy order.TheVariants.Seed o S events = IsScheduled S o.seed events
+ArePickedBy order.TheVariants.Time o S events = IsReady S.setting × AreInTimeOrder (ticks_for o) no_latency S clock_at_start events
+
+-- r is a run from state S on, with its events picked as the options ask
+pub record IsPickedRun (o : Options) (S : State) (r : RunRecord) : Type 0 where
+  pub run : IsCoherentRun S r
+  pub picked : ArePickedBy o.order o S r.events
+
 -- ---- a run
 
 -- r is a run on the machine that the options ask for, however its events were picked
 abbrev pub IsAnyRunFor : ProgramParts → Options → RunRecord → Type 0
 IsAnyRunFor P o r = IsRunOf P (shape_for P o) o.fuel r
 
--- r is such a run. With one worker the words of the options' seed pick its events; with more workers the host decides which
--- event comes first
+-- r is such a run. With one worker its events are picked in the order of the options; with more workers the host decides which event
+-- comes first
 pub record IsRunFor (P : ProgramParts) (o : Options) (r : RunRecord) : Type 0 where
   pub run : IsAnyRunFor P o r
-  pub scheduled : o.workers ≡ 1 → IsScheduled (initial_state run.setting) o.seed r.events
+  pub picked : o.workers ≡ 1 → ArePickedBy o.order o (initial_state run.setting) r.events
 
 -- ---- its output
 
@@ -51,10 +82,6 @@ pub record IsPrintedRun (P : ProgramParts) (o : Options) (print : RunRecord → 
   pub answer : out ≡ output_of_run (print run) run
 
 -- ---- its timing
-
--- the ticks that the options give to the kinds of event: a core's own, those that a bank handles, and all others
-abbrev pub ticks_for : Options → Ticks
-ticks_for o = ticks_by o.tick_core o.tick_bank o.tick_mail
 
 -- a run of the program on the machine of this shape was timed with these ticks. The output hands the run back, sums it up, and
 -- then tells its longest chain of events

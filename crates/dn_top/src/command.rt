@@ -20,6 +20,7 @@ const OPTIONS: [(&str, OptionValue<'_>); 12] = [
     ("tick-core", OptionValue::Number("1")),
     ("tick-bank", OptionValue::Number("10")),
     ("tick-mail", OptionValue::Number("5")),
+    ("order", OptionValue::Text("seed")),
 ];
 
 /// The command with its twelve options.

@@ -34,7 +34,7 @@ pub use laws::{
     a_proven_text_runs_inside, a_trace_replays_as_its_run,
     the_output_is_a_function_of_source_and_options,
 };
-pub use options::{Mode, Options};
+pub use options::{Mode, Options, Order};
 pub use parsing::read_words;
 pub use program::{denovo_given, denovo_program};
 pub use program_outside::WordsFault;

@@ -21,12 +21,23 @@ pub enum Mode {
     Prove,
 }
 
+/// How the next event of a run is picked, in the modes that run the multicore machine by themselves.
+#[derive(Clone, Copy)]
+pub enum Order {
+    /// By the words of the seed's generator.
+    Seed,
+    /// The event that can start first by the ticks of its kind. One worker alone makes such a run.
+    Time,
+}
+
 /// What the arguments ask for. A mode ignores the options that it has no use for.
 #[derive(Clone, Copy)]
 pub struct Options {
     pub mode: Mode,
     /// Whether a listing has the address of each code word.
     pub addresses: bool,
+    /// How the next event is picked.
+    pub order: Order,
     /// The seed of the generators that pick events. With more than one worker it doesn't fix the order of events.
     pub seed: u32,
     /// Host threads, from 1 to 16.

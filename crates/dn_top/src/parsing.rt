@@ -1,10 +1,11 @@
-ghost use Rattle.std.specs.Prelude.{◌≡◌, IfOk, IfErr, map, string_bytes, Some, None};
-ghost use Rattle.clap.specs.Words.{rows_of, found_of};
-ghost use Rattle.dn_top.specs.Command.{mode_named, mode_in, options_from, options_of, OptionsInRange};
+ghost use Rattle.std.specs.Prelude.{◌≡◌, IfOk, IfErr, map, string_bytes, Some, None, option_map};
+ghost use Rattle.clap.specs.Words.{rows_of, found_of, first_of};
+ghost use Rattle.dn_top.specs.Command.{mode_named, mode_in, order_by, order_in, order_named, options_from, options_of, OptionsInRange};
+ghost use Rattle.dn_top.specs.declared.options.Order.TheVariants.{Time as TimeOrder};
 ghost use Rattle.program_outside.specs.declared.words.WordsFault.TheVariants.{Usage};
 
 use crate::command::denovo;
-use crate::options::{Mode, Options};
+use crate::options::{Mode, Options, Order};
 use clap::ArgMatches;
 use program_outside::{WordsFault, matches_by, number, switch, text_of};
 use std::alloc::Global;
@@ -37,17 +38,56 @@ fn mode(matches: &ArgMatches<'_>) -> Option<Mode>
     }
 }
 
-/// The options that the values give, if the mode is one of the nine and each number is in its range.
+/// The order with this name.
+fn order_named(text: &str) -> Option<Order>
+    ensures { result ≡ order_named text.now }
+{
+    match text {
+        "seed" => Some(Order::Seed),
+        "time" => Some(Order::Time),
+        _ => None,
+    }
+}
+
+/// The same, if this many workers can make a run in it.
+fn order_by(workers: u32, order: Order) -> Option<Order>
+    ensures value { result ≡ order_by workers order }
+    ensures alone { result ≡ Some TimeOrder → workers ≡ 1 }
+{
+    match order {
+        Order::Seed => Some(Order::Seed),
+        Order::Time if workers == 1 => Some(Order::Time),
+        Order::Time => None,
+    }
+}
+
+/// The order that the words ask for, for this many workers.
+fn order(matches: &ArgMatches<'_>, workers: u32) -> Option<Order>
+    ensures value { result ≡ order_in workers (rows_of (found_of matches.now)) }
+    ensures alone { result ≡ Some TimeOrder → workers ≡ 1 }
+{
+    match text_of(matches, "order") {
+        Some(text) => order_by(workers, order_named(text)?),
+        None => None,
+    }
+}
+
+/// The options that the values give, if the mode is one of the nine, each number is in its range, and a run in time order has one
+/// worker.
 #[tactic(auto, unfolding(crate::specs::Command::options_from))]
 fn options(matches: &ArgMatches<'_>) -> Option<Options>
     ensures value { result ≡ options_from (rows_of (found_of matches.now)) }
     ensures limits { (o : _) → result ≡ Some o → OptionsInRange o }
 {
+    let mode = mode(matches)?;
+    let addresses = switch(matches, "addresses")?;
+    let seed = number(matches, "seed", 0, 4_294_967_295)?;
+    let workers = number(matches, "workers", 1, 16)?;
     Some(Options {
-        mode: mode(matches)?,
-        addresses: switch(matches, "addresses")?,
-        seed: number(matches, "seed", 0, 4_294_967_295)?,
-        workers: number(matches, "workers", 1, 16)?,
+        mode,
+        addresses,
+        seed,
+        workers,
         banks: number(matches, "banks", 1, 16)?,
         sets: number(matches, "sets", 1, 256)?,
         ways: number(matches, "ways", 1, 16)?,
@@ -56,14 +96,15 @@ fn options(matches: &ArgMatches<'_>) -> Option<Options>
         tick_core: number(matches, "tick-core", 1, 1_000_000)?,
         tick_bank: number(matches, "tick-bank", 1, 1_000_000)?,
         tick_mail: number(matches, "tick-mail", 1, 1_000_000)?,
+        order: order(matches, workers)?,
     })
 }
 
 /// What the arguments ask for. The program's own name isn't among them.
 ///
 /// The options are `--mode`, `--addresses`, `--seed`, `--workers`, `--banks`, `--sets`, `--ways`, `--fuel`, `--size`, `--tick-core`,
-/// `--tick-bank` and `--tick-mail`. Each has one value, whose range stands in `Options`, and may be given once at most, as
-/// `--seed 7` or `--seed=7`. The defaults are run, off, 1, 1, 4, 64, 4, 32768, 4, 1, 10 and 5. No other words are taken.
+/// `--tick-bank`, `--tick-mail` and `--order`. Each has one value, whose range stands in `Options`, and may be given once at most, as
+/// `--seed 7` or `--seed=7`. The defaults are run, off, 1, 1, 4, 64, 4, 32768, 4, 1, 10, 5 and seed. No other words are taken.
 ///
 /// # Errors
 /// `Usage` if the command doesn't take the words, `Memory` if there is no room to read them.

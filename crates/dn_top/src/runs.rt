@@ -1,16 +1,18 @@
-ghost use Rattle.std.specs.Prelude.{◌≡◌, ◌≤◌, ◌++◌, All, length, IfOk, IfErr};
+ghost use Rattle.std.specs.Prelude.{◌≡◌, ◌≤◌, ◌++◌, All, length, IfOk, IfErr, OnOk};
 ghost use Rattle.dn_top.specs.Command.{OptionsInRange};
+ghost use Rattle.machine_rules.specs.State.{initial_state};
 ghost use Rattle.run_report.specs.Summary.{summary_of};
 ghost use Rattle.run_replay.specs.Document.{FitsDocument, IsTrace};
 ghost use Rattle.run_timing.specs.Text.{timing_of};
 ghost use Rattle.run_timing.specs.Ticks.{AreWithinLimits};
+ghost use Rattle.dn_top.specs.declared.options.Order.TheVariants.{Time as TimeOrder};
 ghost use Rattle.dn_top.specs.Answers.{IsRunOfText};
 ghost use Rattle.run_report.specs.Texts.{IsStop, IsUnfit};
 ghost use Rattle.dn_top.specs.Documents.{trace_of};
 ghost use Rattle.checked_runs.specs.Runs.{IsPrintable, reported, summed_up};
-ghost use Rattle.dn_top.specs.Runs.{IsRunFor, with_one_worker, output_of_run, shape_for, ticks_for};
+ghost use Rattle.dn_top.specs.Runs.{IsPickedRun, IsRunFor, no_latency, output_of_run, shape_for, ticks_for, with_one_worker};
 
-use crate::options::Options;
+use crate::options::{Options, Order};
 use crate::output::Output;
 use dn_base::{MOST_WORDS, Memory, Sequence, Shape, Status};
 use dn_machine::{Machine, RunRecord, a_machine_is_kept};
@@ -18,9 +20,10 @@ use effect_checker::Checked;
 use grant_log::Counts;
 use region_table::Program;
 use run_report::{Stop, checked_of, report, summary};
-use run_timing::{Ticks, Timing, push_timing};
+use run_timing::{Net, Network, Ticks, Timing, push_timing};
 use rv_core::Ending;
 use std::alloc::Global;
+use time_order::run_in_time_order;
 
 /// The shape that the options ask for: as many cores as the program needs, and their banks, sets and ways.
 pub(crate) fn shape_of(options: &Options, program: &Program) -> Shape
@@ -42,7 +45,51 @@ pub(crate) fn has_each_kind(counts: &Counts)
     let _kinds = &counts.kinds;
 }
 
-/// Runs a checked program on the machine that the options ask for, by their seed, on this thread alone.
+/// A network in which messages take no time on their way.
+fn no_latency() -> Network
+    ensures { result ≡ no_latency }
+{
+    Network {
+        net: Net::Uniform,
+        latency: 0,
+    }
+}
+
+/// Runs a machine on which no event has come, in time order, by the ticks of the options.
+pub(crate) fn run_in_order(
+    alloc: Global,
+    options: &Options,
+    machine: &mut Machine,
+) -> Result<RunRecord, Memory>
+    requires limits { OptionsInRange options.now }
+    requires order { options.now.order ≡ TimeOrder }
+    requires initial { machine.old.state ≡ initial_state machine.old.state.setting }
+    requires made { machine.old.made ≡ 0 }
+    ensures run { IfOk result (IsPickedRun options.now machine.old.state) }
+    ensures setting { OnOk result (machine.new.state.setting ≡ machine.old.state.setting) }
+{
+    // for the proof alone: the setting of the machine is ready
+    a_machine_is_kept(machine);
+    run_in_time_order(alloc, machine, &ticks_of(options), &no_latency())
+}
+
+/// Runs a machine on which no event has come, with its events picked as the options ask.
+fn run_picked(alloc: Global, options: &Options, machine: Machine) -> Result<RunRecord, Memory>
+    requires limits { OptionsInRange options.now }
+    requires initial { machine.state ≡ initial_state machine.state.setting }
+    requires made { machine.made ≡ 0 }
+    ensures { IfOk result (IsPickedRun options.now machine.state) }
+{
+    match options.order {
+        Order::Seed => machine.run(alloc, options.seed),
+        Order::Time => {
+            let mut machine = machine;
+            run_in_order(alloc, options, &mut machine)
+        }
+    }
+}
+
+/// Runs a checked program on the machine that the options ask for, as they ask, on this thread alone.
 fn machine_run(alloc: Global, options: &Options, checked: Checked) -> Result<RunRecord, Memory>
     requires { OptionsInRange options.now }
     ensures run { IfOk result (IsRunFor checked (with_one_worker options.now)) }
@@ -53,7 +100,7 @@ fn machine_run(alloc: Global, options: &Options, checked: Checked) -> Result<Run
     let machine = Machine::start(alloc, checked, shape, options.fuel)?;
     // for the proof alone: the machine is the opened one, sound and coherent, so that its run has all that is promised of runs
     a_machine_is_kept(&machine);
-    let run = machine.run(alloc, options.seed)?;
+    let run = run_picked(alloc, options, machine)?;
     // for the proof alone: the events are fewer than 2^64, and there is a count of each kind, so that the record can be printed
     let _events = run.events.len();
     has_each_kind(&run.counts);

@@ -1,15 +1,16 @@
 //! Runs that are timed on the machine that they are of: its program is made once.
-ghost use Rattle.std.specs.Prelude.{◌≡◌, ◌≢◌, IfOk, IfErr};
+ghost use Rattle.std.specs.Prelude.{◌≡◌, ◌≢◌, IfOk, IfErr, OnOk};
 ghost use Rattle.dn_top.specs.Command.{OptionsInRange};
+ghost use Rattle.machine_rules.specs.State.{initial_state};
 ghost use Rattle.dn_machine.specs.Kept.{IsInitialMachine};
 ghost use Rattle.dn_machine.specs.Settings.{IsSettingOf};
 ghost use Rattle.run_report.specs.Texts.{HasChecked, IsStop, IsUnfit};
 ghost use Rattle.checked_runs.specs.Runs.{IsPrintable};
-ghost use Rattle.dn_top.specs.Runs.{IsAnyRunFor, IsRunFor, IsTimedFor, IsTimedRun, shape_for, with_one_worker};
+ghost use Rattle.dn_top.specs.Runs.{IsAnyRunFor, IsPickedRun, IsRunFor, IsTimedFor, IsTimedRun, shape_for, with_one_worker};
 
-use crate::options::Options;
+use crate::options::{Options, Order};
 use crate::output::Output;
-use crate::runs::{handed_back, has_each_kind, shape_of, ticks_of, timed_text};
+use crate::runs::{handed_back, has_each_kind, run_in_order, shape_of, ticks_of, timed_text};
 use crate::workers::workers_run;
 use dn_base::{Gate, Memory};
 use dn_machine::{Machine, RunRecord, a_machine_is_kept};
@@ -21,15 +22,32 @@ use std::alloc::Global;
 use std::sync::Wait;
 use std::thread::Threads;
 
-/// The run of a machine at its start by the seed of the options, on this thread alone. The machine stays at its start.
-fn run_of(alloc: Global, options: &Options, machine: &Machine) -> Result<RunRecord, Memory>
-    requires { IsInitialMachine machine.now.state.setting.program (shape_for machine.now.state.setting.program options.now) options.now.fuel machine.now }
-    ensures run { IfOk result (IsRunFor machine.now.state.setting.program (with_one_worker options.now)) }
+/// The run of a machine at its start, with its events picked as the options ask, on this thread alone. The machine has its setting
+/// afterwards, and may have run.
+fn picked_run(alloc: Global, options: &Options, machine: &mut Machine) -> Result<RunRecord, Memory>
+    requires limits { OptionsInRange options.now }
+    requires initial { machine.old.state ≡ initial_state machine.old.state.setting }
+    requires made { machine.old.made ≡ 0 }
+    ensures run { IfOk result (IsPickedRun options.now machine.old.state) }
+    ensures setting { OnOk result (machine.new.state.setting ≡ machine.old.state.setting) }
+{
+    match options.order {
+        Order::Seed => machine.run_copy(alloc, options.seed),
+        Order::Time => run_in_order(alloc, options, machine),
+    }
+}
+
+/// The same run, of the machine that the options ask for.
+fn run_of(alloc: Global, options: &Options, machine: &mut Machine) -> Result<RunRecord, Memory>
+    requires limits { OptionsInRange options.now }
+    requires initial { IsInitialMachine machine.old.state.setting.program (shape_for machine.old.state.setting.program options.now) options.now.fuel machine.old }
+    ensures run { IfOk result (IsRunFor machine.old.state.setting.program (with_one_worker options.now)) }
+    ensures setting { OnOk result (machine.new.state.setting ≡ machine.old.state.setting) }
     ensures printable { IfOk result IsPrintable }
 {
     // for the proof alone: the machine is the opened one, sound and coherent, so that its run has all that is promised of runs
     a_machine_is_kept(machine);
-    let run = machine.run_copy(alloc, options.seed)?;
+    let run = picked_run(alloc, options, machine)?;
     // for the proof alone: the events are fewer than 2^64, and there is a count of each kind, so that the record can be printed
     let _events = run.events.len();
     has_each_kind(&run.counts);
@@ -57,17 +75,19 @@ fn sum_up(
     Ok(handed_back(text, run))
 }
 
-/// Runs a machine at its start by the seed of the options, and times the run on the same machine.
+/// Runs a machine at its start as the options ask, and times the run on the same machine, which is set back to its start for that.
 fn time_on(alloc: Global, options: &Options, machine: &mut Machine) -> Result<Output, Memory>
     requires limits { OptionsInRange options.now }
     requires initial { IsInitialMachine machine.old.state.setting.program (shape_for machine.old.state.setting.program options.now) options.now.fuel machine.old }
     ensures { IfOk result (IsTimedRun machine.old.state.setting.program (with_one_worker options.now)) }
 {
+    // for the proof alone: the machine's setting is that of its program
+    a_machine_is_kept(machine);
     let run = run_of(alloc, options, machine)?;
-    sum_up(alloc, options, machine, run)
+    time_again(alloc, options, machine, run)
 }
 
-/// Runs a checked program on the machine that the options ask for, by their seed, on this thread alone, and times the run.
+/// Runs a checked program on the machine that the options ask for, as they ask, on this thread alone, and times the run.
 fn time_checked(alloc: Global, options: &Options, checked: Checked) -> Result<Output, Memory>
     requires { OptionsInRange options.now }
     ensures { IfOk result (IsTimedRun checked (with_one_worker options.now)) }

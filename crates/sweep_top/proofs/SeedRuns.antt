@@ -34,7 +34,7 @@ module _ (P : ProgramParts) (o : SweepOptions) (seed : ℕ) (m : Made) (r : RunR
       let here : IsSeedsRunOf m.state seed r = at-start at there in
       record {
         run = run-of P (shape_for P (options_at o seed)) o.fuel m.state.setting r (setting-opened at kept) there.run here.run.flat each;
-        scheduled = λ _. there.scheduled;
+        picked = λ _. there.scheduled;
       }
 
   pub seed-printable : IsInitialMachine P (shape_for P (options_at o seed)) o.fuel m → IsKept m.state m.made → IsSeedsRunOf (initial_state m.state.setting) seed r → length r.counts.kinds ≡ 17

@@ -1,5 +1,5 @@
 use Rattle.std.proofs.Common.{◌<◌, length, arith}
-use Rattle.dn_top.proofs.RunOf.{at_shape, is-run_by_seed, is-printable, all-told}
+use Rattle.dn_top.proofs.RunOf.{at_shape, is-run_by_one, picked-alone, is-printable, all-told}
 use Rattle.dn_top.specs.Runs.{with_one_worker}
 use Rattle.dn_top.proofs.runs.machine_run.Goals as goal
 
@@ -8,7 +8,7 @@ returns-clause-run c =
     let m = c.in_ok-machine.machine in
     let at = at_shape c.args.checked c.program.result.now c.args.options.now c.shape_of-shape.result m c.in_ok-machine.ensures c.shape_of-shape.ensures c.program.ensures.value in
     let told = c.in_ok-run.ensures in
-    is-run_by_seed c.args.checked (with_one_worker c.args.options.now) m c.in_ok-run.run' at c.a_machine_is_kept.ensures told c.has_each_kind.ensures
+    is-run_by_one c.args.checked (with_one_worker c.args.options.now) m c.in_ok-run.run' at c.a_machine_is_kept.ensures (picked-alone c.args.options.now m.state c.in_ok-run.run' told) c.has_each_kind.ensures
 
 pub returns-clause-told : goal.returns-clause-told
 returns-clause-told c =

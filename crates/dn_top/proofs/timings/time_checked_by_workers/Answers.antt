@@ -1,4 +1,4 @@
-use Rattle.std.proofs.Common.{IfOk, sym, subst}
+use Rattle.std.proofs.Common.{sym, subst}
 use Rattle.std.proofs.lemmas.Result.{IfOk-weaker}
 use Rattle.region_table.specs.Program.{ProgramParts}
 use Rattle.dn_top.specs.declared.output.Output.{Output}
