@@ -20,7 +20,8 @@
  *   - out and written overlap nothing else that is handed in, and no other thread uses them during the call;
  *   - every size is below 2^63;
  *   - malloc, realloc and free are one allocator, and the call isn't made from a signal handler.
- * No function keeps anything between calls, so calls in several threads are independent. */
+ * No function keeps anything between calls, so calls in several threads are independent. No contract says how much stack a call needs: the
+ * programs, which do the same, ran all examples with a stack of 128 KiB. */
 #ifndef DENOVO_H
 #define DENOVO_H
 
