@@ -52,21 +52,21 @@ def the_options_have_the_ranges_of_the_definition():
     definition = pathlib.Path("crates/dn_top/specs/Command.antt").read_text()
     defaults = dict(re.findall(r'_rule \(codes "([\w-]+)"\) \(codes "(\w+)"\)', definition))
     ranges = {name: (low, high) for name, low, high in re.findall(r'number_in rows \(codes "([\w-]+)"\) (\d+) (\d+)', definition)}
-    modes = re.findall(r'bytes_eq text \(codes "(\w+)"\)', definition)
+    words = {name: ", ".join(re.findall(r'codes "(\w+)"', body)) for name, body in re.findall(r"^(\w+)_named text =\n((?:    .*\n)+)", definition, re.M)}
     switches = re.findall(r'switch_in rows \(codes "([\w-]+)"\)', definition)
     help_text, told = pathlib.Path("tools/help/denovo.txt").read_text(), {}
     for options, values, default in re.findall(r"^\| (`--.*?) \| (.*?) \| (.*?) \|", page("COMMAND"), re.M):
         names = re.findall(r"--([\w-]+)", options)
         parts, sets = default.split(", "), values.split(", ")
         for at, name in enumerate(names):
-            told[name] = (sets[at] if name not in ("mode", *switches) and len(sets) > 1 else values, parts[at])
+            told[name] = (sets[at] if name not in (*words, *switches) and len(sets) > 1 else values, parts[at])
     check("docs/COMMAND.md has the options", sorted(told) == sorted(defaults), set(told) ^ set(defaults))
     for name, (values, default) in told.items():
-        wanted = ", ".join(modes) if name == "mode" else "on, off" if name in switches else "%s to %s" % ranges[name]
+        wanted = words[name] if name in words else "on, off" if name in switches else "%s to %s" % ranges[name]
         check(f"docs/COMMAND.md: --{name}", (values, default) == (wanted, defaults[name]), (values, default, wanted, defaults[name]))
         if name in switches:
             line = re.search(rf"^  --{name} on\|off .*", help_text, re.M)[0]
             check(f"tools/help/denovo.txt: --{name}", f"({defaults[name]})" in line, line)
-        elif name != "mode":
+        elif name not in words:
             line = re.search(rf"^  --{name} N .*", help_text, re.M)[0]
             check(f"tools/help/denovo.txt: --{name}", f"({defaults[name]})" in line and (name.startswith("tick-") or f"{wanted} (" in line), line)
