@@ -40,8 +40,8 @@ fwd-read      | MI_A                    |         | data to requester, put-back 
 fwd-read      | EI_A                    |         | data to requester, put-clean to home       | SI_A
 fwd-own       | M E                     |         | data-own to requester                      | I
 fwd-own       | MI_A EI_A               |         | data-own to requester                      | II_A
-fwd-read      | IM_AD IM_A SM_AD SM_A   |         | wait                                       |
-fwd-own       | IM_AD IM_A SM_AD SM_A   |         | wait                                       |
+fwd-read      | IM_AD IM_A SM_A         |         | wait                                       |
+fwd-own       | IM_AD IM_A SM_A         |         | wait                                       |
 put-ack       | MI_A EI_A SI_A II_A     |         |                                            | I
 """
 

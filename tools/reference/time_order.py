@@ -50,6 +50,7 @@ class Clock:
         self.machine, self.ticks, self.network = machine, ticks, network
         self.free = [0] * (machine.cores + machine.banks + 1)
         self.arrival = {}
+        self.last_of_pair = {}
 
     def candidates(self):
         """The events that may come, each behind its key: its start; its actor; a message before an own event; and of two messages the one that
@@ -69,6 +70,9 @@ class Clock:
         if event[0] == "handle":
             to, message = next(mail[2:] for mail in machine.pool if mail[:2] == event[1:])
             actor, kind = index(machine, to), message[0]
+            # what one actor sends another is handled in the order in which it was sent
+            assert self.last_of_pair.get((event[1], to), -1) < event[2]
+            self.last_of_pair[event[1], to] = event[2]
         else:
             actor, kind = event[1], event[0]
         before = {mail[:2] for mail in machine.pool}
