@@ -10,10 +10,10 @@ use Rattle.dn_top.specs.declared.options.Order as order
 use Rattle.dn_top.specs.declared.options.Options.{Options}
 use Rattle.program_outside.specs.Words.{bare, faults_in, number_in, number_rule, switch_in, text_rule, values_in, where_taken}
 
--- the command `denovo` with its twelve options
+-- the command `denovo` with its thirteen options
 unfoldable pub command : App
 command =
-    with_rule (with_rule (with_rule (with_rule (with_rule (with_rule (with_rule (with_rule (with_rule (with_rule (with_rule (with_rule (bare (new_app (codes "denovo")))
+    with_rule (with_rule (with_rule (with_rule (with_rule (with_rule (with_rule (with_rule (with_rule (with_rule (with_rule (with_rule (with_rule (bare (new_app (codes "denovo")))
     (text_rule (codes "mode") (codes "run")))
     (text_rule (codes "addresses") (codes "off")))
     (number_rule (codes "seed") (codes "1")))

@@ -23,7 +23,7 @@ const OPTIONS: [(&str, OptionValue<'_>); 12] = [
     ("order", OptionValue::Text("seed")),
 ];
 
-/// The command with its twelve options.
+/// The command with its thirteen options.
 #[tactic(auto, unfolding(crate::specs::Command::command))]
 pub(crate) fn denovo<'a>(alloc: Global) -> Result<Command<'a>, AllocError>
     ensures { IfOk result (λ made. app_of made ≡ command) }

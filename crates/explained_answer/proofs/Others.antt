@@ -94,10 +94,14 @@ no-other bytes checked unbounded sums times links fixeds opens (line.TheVariants
 no-other bytes checked unbounded sums times links fixeds opens (line.TheVariants.Checked a b c) rest st =
     checked a b c rest (record { first_from = st.fits.phases_from; second_from = st.fits.tasks_from; third_from = st.fits.words_from; parts = st.parts })
 no-other bytes checked unbounded sums times links fixeds opens (line.TheVariants.Unbounded p c a) rest st = unbounded p c a rest (record { numbers = st.fits; parts = st.parts })
-no-other bytes checked unbounded sums times links fixeds opens (line.TheVariants.Varies w) rest st = opens (line.TheVariants.Varies w) rest st
-no-other bytes checked unbounded sums times links fixeds opens (line.TheVariants.OpenControl p c a) rest st = opens (line.TheVariants.OpenControl p c a) rest st
-no-other bytes checked unbounded sums times links fixeds opens (line.TheVariants.OpenHeld p c l) rest st = opens (line.TheVariants.OpenHeld p c l) rest st
-no-other bytes checked unbounded sums times links fixeds opens (line.TheVariants.OpenStuck p l) rest st = opens (line.TheVariants.OpenStuck p l) rest st
+no-other bytes checked unbounded sums times links fixeds opens (line.TheVariants.Varies w) rest st =
+    opens (line.TheVariants.Varies w) rest (record { fits = st.fits; parts = st.parts })
+no-other bytes checked unbounded sums times links fixeds opens (line.TheVariants.OpenControl p c a) rest st =
+    opens (line.TheVariants.OpenControl p c a) rest (record { fits = st.fits; parts = st.parts })
+no-other bytes checked unbounded sums times links fixeds opens (line.TheVariants.OpenHeld p c l) rest st =
+    opens (line.TheVariants.OpenHeld p c l) rest (record { fits = st.fits; parts = st.parts })
+no-other bytes checked unbounded sums times links fixeds opens (line.TheVariants.OpenStuck p l) rest st =
+    opens (line.TheVariants.OpenStuck p l) rest (record { fits = st.fits; parts = st.parts })
 no-other bytes checked unbounded sums times links fixeds opens (line.TheVariants.Fixed f) rest st = fixeds f rest st.parts
 no-other bytes checked unbounded sums times links fixeds opens (line.TheVariants.Outcome o) rest st = st.fits
 no-other bytes checked unbounded sums times links fixeds opens (line.TheVariants.Task t) rest st = st.fits
