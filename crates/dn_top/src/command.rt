@@ -7,7 +7,7 @@ use program_outside::{OptionValue, bare_command, with_options};
 use std::alloc::{AllocError, Global};
 
 /// The options of the command, with their defaults.
-const OPTIONS: [(&str, OptionValue<'_>); 12] = [
+const OPTIONS: [(&str, OptionValue<'_>); 13] = [
     ("mode", OptionValue::Text("run")),
     ("addresses", OptionValue::Text("off")),
     ("seed", OptionValue::Number("1")),
