@@ -91,19 +91,25 @@ abbrev pub declared_by : Option TaskPlace → List ℕ
 declared_by (Some t) = that_line t.line
 declared_by None = []
 
+unfoldable pub while_it_holds : List ℕ
+while_it_holds = codes " ends while it holds "
+
+unfoldable pub held_warning : List ℕ
+held_warning = codes ", and another task of the phase takes this lock. If that one comes later, it waits for ever.\n  Release the lock before the task ends.\n"
+
+unfoldable pub stuck_warning : List ℕ
+stuck_warning = codes ": in some order of grants tasks may hold locks and wait for each other's in a cycle, and this lock is on it.\n  Let all tasks of the phase take their locks in one order.\n"
+
 -- the task that ends with a lock, and what follows
 unfoldable pub held_text : Located → ℕ → ℕ → ℕ → List ℕ
 held_text l phase core lock =
-    the_task ++ declared_by (find (is_task_of phase core) l.places.tasks) ++ codes " ends while it holds " ++ lock_text l.program.locks lock
-    ++ codes ", and another task of the phase takes this lock. If that one comes later, it waits for ever.\n  Release the lock before the task ends.\n"
+    the_task ++ declared_by (find (is_task_of phase core) l.places.tasks) ++ while_it_holds ++ lock_text l.program.locks lock ++ held_warning
     ++ sweep_advice
 
 -- the lock that is on a cycle, and what follows
 unfoldable pub stuck_text : Located → ℕ → List ℕ
 stuck_text l lock =
-    indent ++ lock_text l.program.locks lock
-    ++ codes ": in some order of grants tasks may hold locks and wait for each other's in a cycle, and this lock is on it.\n  Let all tasks of the phase take their locks in one order.\n"
-    ++ sweep_advice
+    indent ++ lock_text l.program.locks lock ++ stuck_warning ++ sweep_advice
 
 -- what is said after a line: for a task that didn't finish, why; for an instruction, where it stands; otherwise the names of
 -- words and locks. `still` has what is known of the line's task, if it waits or is out of fuel; `named` is the cause of an outcome, or

@@ -4,7 +4,7 @@ ghost use Rattle.sentences.specs.Endings.{place_behind};
 ghost use Rattle.sentences.specs.Told.{AreTold};
 ghost use Rattle.sentences.specs.Quotes.{AreSpans};
 ghost use Rattle.explained_answer.specs.AnswerLines.{answer_line};
-ghost use Rattle.explained_answer.specs.Lines.{named_word, named_lock, which_line, declared_there, task_there, the_instruction, at_its_place, instruction_there, unproven_text, sweep_advice, varying_word, control_warning, control_text, the_task, that_line, declared_by, held_text, stuck_text, sentences_behind};
+ghost use Rattle.explained_answer.specs.Lines.{named_word, named_lock, which_line, declared_there, task_there, the_instruction, at_its_place, instruction_there, unproven_text, sweep_advice, varying_word, control_warning, control_text, the_task, that_line, declared_by, while_it_holds, held_warning, stuck_warning, held_text, stuck_text, sentences_behind};
 
 use crate::AnswerLine;
 use crate::causes::{push_ended_holder, push_outcome};
@@ -193,6 +193,33 @@ fn push_declared_by(out: &mut Vec<u8>, task: Option<TaskPlace>) -> Result<(), Me
     }
 }
 
+#[tactic(auto, unfolding(crate::specs::Lines::while_it_holds))]
+fn push_while_it_holds(out: &mut Vec<u8>) -> Result<(), Memory>
+    ensures { OnOk result (out.new.items ≡ out.old.items ++ while_it_holds) }
+{
+    push(out, b" ends while it holds ")
+}
+
+#[tactic(auto, unfolding(crate::specs::Lines::held_warning))]
+fn push_held_warning(out: &mut Vec<u8>) -> Result<(), Memory>
+    ensures { OnOk result (out.new.items ≡ out.old.items ++ held_warning) }
+{
+    push(
+        out,
+        b", and another task of the phase takes this lock. If that one comes later, it waits for ever.\n  Release the lock before the task ends.\n",
+    )
+}
+
+#[tactic(auto, unfolding(crate::specs::Lines::stuck_warning))]
+fn push_stuck_warning(out: &mut Vec<u8>) -> Result<(), Memory>
+    ensures { OnOk result (out.new.items ≡ out.old.items ++ stuck_warning) }
+{
+    push(
+        out,
+        b": in some order of grants tasks may hold locks and wait for each other's in a cycle, and this lock is on it.\n  Let all tasks of the phase take their locks in one order.\n",
+    )
+}
+
 /// Adds which task ends with a lock, and what follows.
 #[tactic(auto, unfolding(crate::specs::Lines::held_text))]
 fn push_held(
@@ -206,12 +233,9 @@ fn push_held(
 {
     push_the_task(out)?;
     push_declared_by(out, located.places.task(phase as usize, core))?;
-    push(out, b" ends while it holds ")?;
+    push_while_it_holds(out)?;
     push_lock(out, located.program.locks.as_slice(), lock as usize)?;
-    push(
-        out,
-        b", and another task of the phase takes this lock. If that one comes later, it waits for ever.\n  Release the lock before the task ends.\n",
-    )?;
+    push_held_warning(out)?;
     push_sweep_advice(out)
 }
 
@@ -222,10 +246,7 @@ fn push_stuck(out: &mut Vec<u8>, located: &Located, lock: u32) -> Result<(), Mem
 {
     push(out, b"  ")?;
     push_lock(out, located.program.locks.as_slice(), lock as usize)?;
-    push(
-        out,
-        b": in some order of grants tasks may hold locks and wait for each other's in a cycle, and this lock is on it.\n  Let all tasks of the phase take their locks in one order.\n",
-    )?;
+    push_stuck_warning(out)?;
     push_sweep_advice(out)
 }
 
