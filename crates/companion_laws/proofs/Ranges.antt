@@ -75,7 +75,7 @@ from-range rows o e =
       tick_bank = number-range rows (codes "tick-bank") 1 1000000 tick_bank h10;
       tick_mail = number-range rows (codes "tick-mail") 1 1000000 tick_mail h11;
       alone = λ is. order-alone workers rows order h12 is;
-    })))))))))))))
+    }))))))))))))))
 
 pub words-range : (words : List Text) (o : Options) → options_of words ≡ Some o → OptionsInRange o
 unfolding options_of
