@@ -13,7 +13,7 @@ from reference.signatures import Size
 
 HERE = pathlib.Path(__file__).resolve().parent
 TOP = HERE.parent
-MACHINE = ("seed", "sets", "ways", "banks", "fuel", "workers")
+MACHINE = ("seed", "sets", "ways", "banks", "fuel", "workers", "order")
 TICKS = ("tick-core", "tick-bank", "tick-mail")
 OUTCOMES = {status: outcome for outcome, status in reference.STATUS.items()}
 
@@ -41,7 +41,7 @@ def text_of(row, sweep, patterns):
     """The text of a row's run."""
     if "pattern" in row:
         return str(patterns[row["pattern"]](int(row["cores"]))).encode()
-    places = [name for name in list(row)[1:list(row).index("sets")] if name != "seed"]
+    places = [name for name in list(row)[1:list(row).index("sets")] if name not in MACHINE]
     file = row["text"] if row["text"].isdigit() else str(TOP / "examples" / (row["text"] + ".s"))
     return sweep.text_of({"text": file, **{place: int(row[place]) for place in places}}, places)
 
@@ -58,7 +58,7 @@ def numbers_of(row, text):
     lines = said("denovo", *words, given=text)[1].decode().splitlines()
     found.update({line.split()[1]: int(line.split()[2]) for line in lines if line.startswith("count ")})
     if "time" in row:
-        ticks = [word for name in TICKS for word in ("--" + name, row[name])]
+        ticks = [word for name in TICKS if name in row for word in ("--" + name, row[name])]
         lines = said("denovo", "--mode", "time", *words, *ticks, given=text)[1].decode().splitlines()
         found.update({line.split()[0]: int(line.split()[1]) for line in lines if line.startswith(("time ", "chain "))})
     return OUTCOMES.get(status), found

@@ -15,13 +15,14 @@
  * The result is the program's exit code: 0 to 8, as docs/COMMAND.md says, and never 6. denovo answers with one worker, whatever --workers says.
  *
  * What the caller owes, and nothing tests:
- *   - no pointer is null, also where a size is 0;
+ *   - no pointer is null. words, text, source and out may be null where their size is 0, and count as empty then: no contract says so, but
+ *     tools/check_library tries it of each function;
  *   - each pointer points to at least as many bytes as its size says, and written to one size_t;
  *   - out and written overlap nothing else that is handed in, and no other thread uses them during the call;
  *   - every size is below 2^63;
  *   - malloc, realloc and free are one allocator, and the call isn't made from a signal handler.
- * No function keeps anything between calls, so calls in several threads are independent. No contract says how much stack a call needs: the
- * programs, which do the same, ran all examples with a stack of 128 KiB. */
+ * No function keeps anything between calls, so calls in several threads are independent. No contract says how much stack a call needs:
+ * tools/check_library makes every kind of call with a stack of 128 KiB. */
 #ifndef DENOVO_H
 #define DENOVO_H
 

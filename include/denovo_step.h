@@ -13,7 +13,8 @@
  * Link with libdenovo.a or libdenovo.so (tools/library makes both). What each function promises is proved of the machine behind the pointer:
  * the machine of the text when it is opened, the enabled events exactly, and the state to which an event leads (crates/denovo_c/src/lib.rt).
  *
- * What the caller owes, and nothing tests, besides what include/denovo.h says of pointers and sizes:
+ * What the caller owes, and nothing tests, besides what include/denovo.h says of pointers, sizes and stack (text and out may be null where their
+ * size is 0):
  *   - a denovo_machine is {0} before the first call, and else what the last call left in it. So it isn't copied and then used twice, `at` isn't
  *     changed, and nothing is read or written behind it;
  *   - all calls of one machine are made by one thread. Machines of several threads are independent. */

@@ -6,7 +6,7 @@ it says how long each part takes.
 It looks that the command words are handed on, that each exit code from 0 to 7 comes out, and 9 for words that aren't UTF-8, that a run goes
 by a pipe into its picture, its account, its states, its answer and its page, that all are those of tools/reference.py, that explained answers are those
 of tools/explained.txt and tools/verdicts.txt, that claims are judged as tools/reference.py judges them, that what all runs of a text have in common is that of
-tools/outcomes.txt and, on made texts, of tools/reference.py, that the rows of many seeds are those of tools/reference.py and of denovo,
+tools/outcomes.txt and, on made texts, of tools/reference.py, that the rows of many seeds are those of tools/reference.py and of denovo, that runs in time order are those of tools/reference.py,
 that what other tools get of runs and listings says what the rules say, that standard error helps, that the tutorial and the documents on
 accounts, states and pages show what their commands print, that the numbers of accounts, of lists, of answers to exercises and at the heads
 of examples are those of runs, that every command of the pages runs, that their constants are those of the definitions, and that the proved
@@ -22,7 +22,7 @@ import time
 TOP = pathlib.Path(__file__).resolve().parent.parent
 os.chdir(TOP)
 sys.dont_write_bytecode = True
-from checking import calls, charts, claimed, commands, constants, explained, exported, from_python, settled, shown, swept, told  # noqa: E402
+from checking import calls, charts, claimed, commands, constants, explained, exported, from_python, settled, shown, swept, timed, told  # noqa: E402
 from checking.counting import KIND, take  # noqa: E402
 
 # Each part runs in a process of its own, as many at once as there are processors: those that take longest begin first.
@@ -61,6 +61,8 @@ PARTS = [functools.partial(shown.states_are_those_of_the_reference, example, wor
     charts.each_mode_has_its_own_options,
     settled.made_texts_have_the_outcomes_of_the_reference,
     settled.cases_have_their_outcomes,
+    timed.made_texts_in_time_order_are_those_of_the_reference,
+    timed.runs_in_time_order_are_those_of_the_reference,
     swept.outputs_are_those_of_the_reference,
     swept.rows_are_of_what_denovo_prints,
     swept.forms_agree,
@@ -72,6 +74,7 @@ PARTS = [functools.partial(shown.states_are_those_of_the_reference, example, wor
     calls.there_is_memory_enough,
     calls.workers_draw_by_the_seed,
     calls.input_without_end_is_left,
+    calls.no_more_is_read_than_is_taken,
     explained.every_exit_code_of_explain_comes,
     charts.a_run_is_drawn_by_a_pipe,
     charts.a_chart_begins_at_an_event,

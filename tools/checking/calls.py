@@ -7,7 +7,7 @@ import tempfile
 import time
 
 import reference
-from .counting import check, programs, run, text_of
+from .counting import check, memory_left, programs, run, text_of
 
 
 def text(name):
@@ -132,6 +132,28 @@ def input_without_end_is_left():
         with open("/dev/zero", "rb") as zeros:
             ran = run(["bash", "-c", 'ulimit -f 2200; "$@"', "bash", f"./{name}"], zeros)
         check(f"./{name} < /dev/zero", ran.stdout == told, ran)
+
+
+def no_more_is_read_than_is_taken():
+    """Of a file that is larger than a program takes, the program reads one byte more than it takes. Where that is a text, 128 MiB of memory are room
+    enough."""
+    text, document = 1048577, 536870913
+    with tempfile.TemporaryFile() as large:
+        large.truncate(600_000_000)
+        for name, words, most, told in (
+                ("denovo", [], text, "source"), ("denovo", ["--mode", "check"], text, "source"), ("outcomes", [], text, "source"),
+                ("sweep", [], text, "source"), ("denovo", ["--mode", "replay"], document, "trace"), ("view", [], document, "trace"),
+                ("referee", [], document, "claim"), ("explain", ["examples/trap.s"], document, "answer")):
+            if most == document and memory_left() < 2 ** 30:
+                print(f"programs: {name}: a file of 600 MB is passed over: less than 1 GiB of memory is free")
+                continue
+            room = "131072" if most == text else "unlimited"
+            for program in programs(name):
+                large.seek(0)
+                ran = run(["bash", "-c", f'ulimit -v {room}; "$@"', "bash", *program, *words], large)
+                label, read = " ".join([program[0], *words]), os.lseek(large.fileno(), 0, os.SEEK_CUR)
+                check(f"{label} of 600 MB", (ran.returncode, ran.stdout) == (2, f"refused {told} too-large\n".encode()), ran)
+                check(f"{label} of 600 MB: how much is read", read == most, read)
 
 
 def standard_error_helps():

@@ -6,7 +6,7 @@ import re
 import sys
 
 import reference
-from .counting import KIND, check, programs, run, text_of
+from .counting import KIND, check, memory_left, programs, run, text_of
 
 
 def counters(cores, locks):
@@ -384,13 +384,6 @@ def claims_are_refused():
         refused = run(programs("denovo")[0], text)
         other = reference.claim_text(text, 32768, [], None, [])
         judges(program, other, (2, refused.stdout))
-
-
-def memory_left():
-    """How many bytes of memory are free, or 0 where the system doesn't say."""
-    told = pathlib.Path("/proc/meminfo")
-    found = re.search(r"^MemAvailable: +(\d+) kB$", told.read_text(), re.M) if told.exists() else None
-    return int(found.group(1)) * 1024 if found else 0
 
 
 def the_largest_claims_are_read():

@@ -16,8 +16,8 @@ MEANT = {"[OPTIONS] ": "", "[--fuel N] ": "--fuel 9 ", "[--seeds 1..1000] ": "--
 # how loops are made short: a few programs and seeds show that the command runs
 SHORT = {"examples/litmus/*.s": "examples/litmus/f*.s", "--seeds 1..20": "--seeds 1..2", "--sets 1,4,16 --ways 1,2": "--sets 1,4",
          "--y misses --by ways": "--y misses", "readers=1,4,15": "readers=1,4", "seq 60": "seq 3", "--count 100": "--count 2"}
-# commands that aren't run here: one installs a compiler, tools/check_library makes and tries the library
-ELSEWHERE = ("apt-get ", "tools/library", "cc ", "/tmp/seeds ", "/tmp/steps ")
+# commands that aren't run here: one installs a compiler, tools/check_library makes and tries the library, tools/check_play the page and its module
+ELSEWHERE = ("apt-get ", "tools/library", "tools/play", "tools/wasm", "tools/arm64", "tools/release", "cc ", "/tmp/seeds ", "/tmp/steps ")
 
 
 def commands_of(page):

@@ -1,22 +1,31 @@
 //! The run by one thread, as denovo's one worker makes it: each event is the one that the next word of the seed's generator picks,
-//! of the cores' own events and then the handlings of the mails in flight. It keeps the list of its events.
+//! of the cores' own events and then the handlings of the messages in flight. It keeps the list of its events.
 use crate::homes::{Bank, Keeper};
-use crate::mail::{Actor, Draws, Event, Grant, Mail, Sender, Sent};
+use crate::mail::{Actor, Draws, Grant, Own, Sent};
 use crate::node::Node;
 use crate::program::Program;
 use crate::workers::TaskEnd;
 
+/// What was made: a core's own event, or the handling of the message that was in flight at this place. With the list of all of them the run
+/// can be made again.
+#[allow(dead_code)]
+#[derive(Clone, Copy)]
+pub enum Made {
+    Own { core: u32, own: Own },
+    Handled { place: u32 },
+}
+
 /// The events of a run, the grants among them, and how many there were of each kind.
 #[derive(Default)]
 pub struct Log {
-    pub events: Vec<(Actor, Event)>,
+    pub events: Vec<Made>,
     pub grants: Vec<Grant>,
     pub counts: [u64; 17],
 }
 
 impl Log {
-    fn note(&mut self, actor: Actor, event: Event, kind: u8) {
-        self.events.push((actor, event));
+    fn note(&mut self, made: Made, kind: u8) {
+        self.events.push(made);
         self.counts[usize::from(kind)] += 1;
     }
 }
@@ -25,14 +34,10 @@ struct Machine<'a> {
     nodes: Vec<Node<'a>>,
     banks: Vec<Bank>,
     keeper: Keeper,
-    core_senders: Vec<Sender>,
-    bank_senders: Vec<Sender>,
-    keeper_sender: Sender,
-    mails: Vec<Mail>,
-    /// The own event of each core, if it has one.
-    own: Vec<Option<Event>>,
+    /// The messages in flight.
+    flying: Vec<Sent>,
     /// The cores that have an own event, in rising order.
-    ready: Vec<usize>,
+    ready: Vec<u32>,
     ends: Vec<TaskEnd>,
     log: Log,
 }
@@ -40,84 +45,82 @@ struct Machine<'a> {
 impl<'a> Machine<'a> {
     fn new(program: &'a Program) -> Machine<'a> {
         let cores = 0..program.cores;
-        let banks = 0..program.banks;
         let mut machine = Machine {
             nodes: cores.clone().map(|core| Node::new(program, core)).collect(),
-            banks: banks.clone().map(|bank| Bank::new(program, bank)).collect(),
+            banks: (0..program.banks)
+                .map(|bank| Bank::new(program, bank))
+                .collect(),
             keeper: Keeper::new(program),
-            core_senders: cores.map(|core| Sender::new(Actor::Core(core))).collect(),
-            bank_senders: banks.map(|bank| Sender::new(Actor::Bank(bank))).collect(),
-            keeper_sender: Sender::new(Actor::Keeper),
-            mails: Vec::new(),
-            own: vec![None; program.cores as usize],
+            flying: Vec::new(),
             ready: Vec::new(),
             ends: Vec::new(),
             log: Log::default(),
         };
-        for core in 0..machine.nodes.len() {
-            machine.look(core);
-        }
+        machine.ready =
+            (cores.filter(|&core| machine.nodes[core as usize].own.is_some())).collect();
         machine
     }
 
-    /// Finds what the core does next by itself.
-    fn look(&mut self, core: usize) {
-        let own = self.nodes[core].own();
-        if own.is_some() != self.own[core].is_some() {
-            match self.ready.binary_search(&core) {
-                Ok(place) => {
-                    self.ready.remove(place);
-                }
-                Err(place) => self.ready.insert(place, core),
-            }
+    /// Keeps the list of the cores that are ready, where this one was and may be so no more, or wasn't and may be so now.
+    #[inline(always)]
+    fn keep(&mut self, core: u32, was_ready: bool) {
+        if self.nodes[core as usize].own.is_some() != was_ready {
+            self.turn(core, was_ready);
         }
-        self.own[core] = own;
     }
 
-    fn core_sends(&mut self, core: usize, sent: Option<Sent>) {
-        if let Some(sent) = sent {
-            let mail = self.core_senders[core].mail(sent);
-            self.mails.push(mail);
+    #[inline(never)]
+    fn turn(&mut self, core: u32, was_ready: bool) {
+        let place = self.ready.partition_point(|&other| other < core);
+        if was_ready {
+            self.ready.remove(place);
+        } else {
+            self.ready.insert(place, core);
         }
-        self.look(core);
     }
 
-    fn make(&mut self, core: usize) {
-        let Some(event) = self.own[core] else { return };
-        self.log
-            .note(Actor::Core(core as u32), event, event.own_kind());
-        if let Event::Arrive = event {
-            self.ends.extend(self.nodes[core].shown());
+    fn make(&mut self, core: u32) {
+        let node = &mut self.nodes[core as usize];
+        let Some(own) = node.own else {
+            return;
+        };
+        self.log.note(Made::Own { core, own }, own.kind());
+        if let Own::Arrive = own {
+            self.ends.extend(node.shown());
         }
-        let sent = self.nodes[core].make(event);
-        self.core_sends(core, sent);
+        if let Some(sent) = node.make(own) {
+            self.flying.push(sent);
+        }
+        self.keep(core, true);
     }
 
     fn handle(&mut self, place: usize) {
-        let mail = self.mails.swap_remove(place);
-        let event = Event::Handle {
-            sender: mail.sender,
-            number: mail.number,
+        let (to, message) = self.flying.swap_remove(place);
+        let made = Made::Handled {
+            place: place as u32,
         };
-        self.log.note(mail.to, event, mail.message.kind());
-        match mail.to {
+        self.log.note(made, message.kind());
+        match to {
             Actor::Core(core) => {
-                let (sent, granted) = self.nodes[core as usize].receive(mail.message);
+                let node = &mut self.nodes[core as usize];
+                let was_ready = node.own.is_some();
+                let (sent, granted) = node.receive(message);
+                if let Some(sent) = sent {
+                    self.flying.push(sent);
+                }
                 self.log.grants.extend(granted);
-                self.core_sends(core as usize, sent);
+                self.keep(core, was_ready);
             }
             Actor::Bank(bank) => {
-                if let Some(sent) = self.banks[bank as usize].handle(mail.message) {
-                    let reply = self.bank_senders[bank as usize].mail(sent);
-                    self.mails.push(reply);
+                if let Some(sent) = self.banks[bank as usize].handle(message) {
+                    self.flying.push(sent);
                 }
             }
             Actor::Keeper => {
-                if let Some(message) = self.keeper.handle(mail.message) {
-                    for core in 0..self.nodes.len() as u32 {
-                        let letter = self.keeper_sender.mail((Actor::Core(core), message));
-                        self.mails.push(letter);
-                    }
+                if let Some(message) = self.keeper.handle(message) {
+                    let cores = 0..self.nodes.len() as u32;
+                    self.flying
+                        .extend(cores.map(|core| (Actor::Core(core), message.clone())));
                 }
             }
         }
@@ -125,14 +128,15 @@ impl<'a> Machine<'a> {
 
     /// Makes the event that the draw picks; tells whether there was one.
     fn step(&mut self, draw: u32) -> bool {
-        let count = self.ready.len() + self.mails.len();
+        let ready = self.ready.len();
+        let count = ready + self.flying.len();
         if count == 0 {
             return false;
         }
         let place = draw as usize % count;
         match self.ready.get(place) {
             Some(&core) => self.make(core),
-            None => self.handle(place - self.ready.len()),
+            None => self.handle(place - ready),
         }
         true
     }

@@ -2,7 +2,7 @@
 //! take it, as denovo's mode flat does.
 use crate::mail::Grant;
 use crate::program::Program;
-use crate::task::{End, Need, Task};
+use crate::task::{End, Next, Task, part_of};
 use crate::workers::TaskEnd;
 
 pub struct Run {
@@ -22,24 +22,27 @@ impl Machine<'_> {
     /// Runs a task until it ends, or waits for a lock, which is given.
     fn go(&mut self, task: &mut Task<'_>) -> Option<u32> {
         loop {
-            match task.need(self.program) {
-                Need::Local => task.local(self.program),
-                Need::Load { word } => task.loaded(self.program, self.memory[word as usize]),
-                Need::Store { word, .. } => {
+            match task.next(self.program) {
+                Next::Compute { rd, value, goal } => task.complete(rd, value, goal),
+                Next::Load { word, rd, kind, at } => {
+                    task.loaded(rd, part_of(self.memory[word as usize], kind, at));
+                }
+                Next::Store { word, mask, bits } => {
                     let place = word as usize;
-                    self.memory[place] = task.merged(self.program, self.memory[place]);
+                    self.memory[place] = self.memory[place] & !mask | bits;
                     task.retire();
                 }
-                Need::Release(lock) => {
+                Next::Release(lock) => {
                     task.held &= !(1 << lock);
                     self.held &= !(1 << lock);
                     task.retire();
                 }
-                Need::Acquire(lock) => return Some(lock),
-                Need::End(end) => {
+                Next::Acquire(lock) => return Some(lock),
+                Next::End(end) => {
                     task.stop(end);
                     return None;
                 }
+                Next::Nothing => return None,
             }
         }
     }

@@ -89,7 +89,7 @@ impl Bank {
                 core,
                 Message::Grant {
                     lock: number,
-                    signature: lock.signature,
+                    signature: Box::new(lock.signature),
                 },
             );
         }
@@ -110,7 +110,7 @@ impl Bank {
             lock.holder?,
             Message::Grant {
                 lock: number,
-                signature: lock.signature,
+                signature: Box::new(lock.signature),
             },
         )
     }

@@ -67,7 +67,7 @@ impl Signature {
     }
 }
 
-#[derive(Clone, Copy)]
+#[derive(Clone)]
 pub enum Message {
     ReadReq {
         word: u32,
@@ -107,11 +107,11 @@ pub enum Message {
     Release {
         lock: u32,
         core: u32,
-        signature: Signature,
+        signature: Box<Signature>,
     },
     Grant {
         lock: u32,
-        signature: Signature,
+        signature: Box<Signature>,
     },
     Arrived {
         core: u32,
@@ -168,7 +168,7 @@ impl Message {
 /// Where a message goes, and the message.
 pub type Sent = (Actor, Message);
 
-#[derive(Clone, Copy)]
+#[derive(Clone)]
 pub struct Mail {
     pub sender: Actor,
     pub number: u32,
@@ -177,25 +177,31 @@ pub struct Mail {
     pub stamp: u64,
 }
 
+/// A core's own event.
+#[derive(Clone, Copy)]
+pub enum Own {
+    Instr,
+    Evict(u32),
+    Arrive,
+}
+
+impl Own {
+    /// The place in `KINDS`.
+    pub fn kind(self) -> u8 {
+        match self {
+            Own::Instr => 0,
+            Own::Evict(_) => 1,
+            Own::Arrive => 2,
+        }
+    }
+}
+
 /// Which mail was handled is noted, and read by nobody.
 #[allow(dead_code)]
 #[derive(Clone, Copy)]
 pub enum Event {
-    Instr,
-    Evict(u32),
-    Arrive,
+    Own(Own),
     Handle { sender: Actor, number: u32 },
-}
-
-impl Event {
-    /// The place in `KINDS` of a core's own event. That of a handled mail is its message's.
-    pub fn own_kind(&self) -> u8 {
-        match self {
-            Event::Instr | Event::Handle { .. } => 0,
-            Event::Evict(_) => 1,
-            Event::Arrive => 2,
-        }
-    }
 }
 
 #[derive(Clone, Copy)]

@@ -80,7 +80,9 @@ fn told(end: &End) -> String {
     match end {
         End::Finished => "finished".to_string(),
         End::Fuel => "fuel".to_string(),
-        End::Trap { kind, pc, value } => format!("trap {kind} pc 0x{pc:08x} value 0x{value:08x}"),
+        End::Trap { kind, pc, value } => {
+            format!("trap {} pc 0x{pc:08x} value 0x{value:08x}", kind.name())
+        }
         End::Waits(lock) => format!("waits {lock}"),
     }
 }
@@ -91,10 +93,24 @@ fn answer(text: &mut String, ending: &Ending) -> std::fmt::Result {
         writeln!(text, "task {phase} {core} {} retired {retired}", told(end))?;
     }
     writeln!(text, "words {}", ending.memory.len())?;
-    for (place, value) in ending.memory.iter().enumerate().filter(|word| *word.1 != 0) {
-        writeln!(text, "word 0x{:08x} 0x{value:08x}", 0x1000_0000 + 4 * place)?;
+    for (place, &value) in ending.memory.iter().enumerate().filter(|word| *word.1 != 0) {
+        text.push_str("word ");
+        push_word(text, 0x1000_0000 + 4 * place as u32);
+        text.push(' ');
+        push_word(text, value);
+        text.push('\n');
     }
     Ok(())
+}
+
+/// Most lines of an answer have two words, which `write!` would take long for.
+fn push_word(text: &mut String, value: u32) {
+    let digits = (0..8).rev().map(|place| value >> (4 * place) & 15);
+    let mut shown = *b"0x00000000";
+    for (shown, digit) in shown[2..].iter_mut().zip(digits) {
+        *shown = b"0123456789abcdef"[digit as usize];
+    }
+    text.push_str(std::str::from_utf8(&shown).expect("digits"));
 }
 
 fn list_grants(text: &mut String, grants: impl Iterator<Item = Grant>) -> std::fmt::Result {

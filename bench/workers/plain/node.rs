@@ -1,13 +1,110 @@
 //! A core with its task and its cache, by the tables of docs/PROTOCOL.md.
-use crate::mail::{Actor, Event, Grant, Message, Sent, Signature};
+use crate::mail::{Actor, Grant, Message, Own, Sent, Signature};
 use crate::program::Program;
-use crate::task::{End, Need, Task};
+use crate::task::{End, Next, Task, part_of};
 
+#[derive(Clone, Copy, PartialEq, Eq)]
+enum State {
+    Valid,
+    /// Valid, and touched by an access that no lock guards.
+    Marked,
+    Registered,
+    /// Registered, and not acknowledged yet.
+    Pending,
+    Leaving,
+}
+
+/// A place of a cache: the word that it holds, or none.
 #[derive(Clone, Copy)]
-enum Entry {
-    Valid { value: u32, is_marked: bool },
-    Registered { value: u32, is_pending: bool },
-    Leaving { value: u32 },
+struct Entry {
+    word: u32,
+    value: u32,
+    /// When it was used last.
+    used: u32,
+    state: State,
+}
+
+/// No word of a program has this number.
+const NO_WORD: u32 = u32::MAX;
+const FREE: Entry = Entry {
+    word: NO_WORD,
+    value: 0,
+    used: 0,
+    state: State::Valid,
+};
+
+/// All places of a cache, set by set.
+struct Cache {
+    entries: Vec<Entry>,
+    sets: u32,
+    ways: u32,
+    /// How often an entry was used.
+    uses: u32,
+}
+
+impl Cache {
+    fn new(sets: u32, ways: u32) -> Cache {
+        Cache {
+            entries: vec![FREE; (sets * ways) as usize],
+            sets,
+            ways,
+            uses: 0,
+        }
+    }
+
+    /// The places of the set of a word.
+    fn set_of(&self, word: u32) -> std::ops::Range<usize> {
+        let first = (word % self.sets * self.ways) as usize;
+        first..first + self.ways as usize
+    }
+
+    /// The place where a word is, or would be free for it.
+    fn place_of(&self, word: u32, wanted: u32) -> Option<usize> {
+        let set = self.set_of(word);
+        let first = set.start;
+        self.entries[set]
+            .iter()
+            .position(|entry| entry.word == wanted)
+            .map(|way| first + way)
+    }
+
+    fn find(&self, word: u32) -> Option<usize> {
+        self.place_of(word, word)
+    }
+
+    fn room_for(&self, word: u32) -> Option<usize> {
+        self.place_of(word, NO_WORD)
+    }
+
+    /// The least recently used word of the set that may leave it.
+    fn victim(&self, word: u32) -> Option<u32> {
+        self.entries[self.set_of(word)]
+            .iter()
+            .filter(|entry| !matches!(entry.state, State::Pending | State::Leaving))
+            .min_by_key(|entry| entry.used)
+            .map(|entry| entry.word)
+    }
+
+    /// The place holds this, and was used last.
+    fn put(&mut self, place: usize, word: u32, value: u32, state: State) {
+        self.uses += 1;
+        self.entries[place] = Entry {
+            word,
+            value,
+            used: self.uses,
+            state,
+        };
+    }
+
+    /// The valid copies of words that pass the test go.
+    fn drop_copies(&mut self, goes: impl Fn(u32, State) -> bool) {
+        for entry in &mut self.entries {
+            let is_copy = matches!(entry.state, State::Valid | State::Marked);
+            if entry.word != NO_WORD && is_copy && goes(entry.word, entry.state) {
+                entry.word = NO_WORD;
+            }
+        }
+    }
 }
 
 #[derive(Clone, Copy, PartialEq, Eq)]
@@ -18,83 +115,16 @@ enum Wait {
     Locking(u32),
 }
 
-/// The sets of a cache, in each the least recently used word first.
-struct Cache {
-    sets: Vec<Vec<(u32, Entry)>>,
-    ways: usize,
-}
-
-impl Cache {
-    fn set(&self, word: u32) -> &Vec<(u32, Entry)> {
-        &self.sets[word as usize % self.sets.len()]
-    }
-
-    fn set_mut(&mut self, word: u32) -> &mut Vec<(u32, Entry)> {
-        let sets = self.sets.len();
-        &mut self.sets[word as usize % sets]
-    }
-
-    fn entry(&self, word: u32) -> Option<Entry> {
-        self.set(word)
-            .iter()
-            .find(|place| place.0 == word)
-            .map(|place| place.1)
-    }
-
-    fn has_room(&self, word: u32) -> bool {
-        self.set(word).len() < self.ways
-    }
-
-    fn remove(&mut self, word: u32) {
-        let set = self.set_mut(word);
-        if let Some(at) = set.iter().position(|place| place.0 == word) {
-            set.remove(at);
-        }
-    }
-
-    /// The word has this entry, and is the most recently used one.
-    fn put(&mut self, word: u32, entry: Entry) {
-        let set = self.set_mut(word);
-        if let Some(at) = set.iter().position(|place| place.0 == word) {
-            let last = set.len() - 1;
-            set[at..].rotate_left(1);
-            set[last] = (word, entry);
-        } else {
-            set.push((word, entry));
-        }
-    }
-
-    /// The word has this entry, and its place as before.
-    fn change(&mut self, word: u32, entry: Entry) {
-        if let Some(place) = self.set_mut(word).iter_mut().find(|place| place.0 == word) {
-            place.1 = entry;
-        }
-    }
-
-    fn victim(&self, word: u32) -> Option<u32> {
-        let may_go = |entry| {
-            matches!(
-                entry,
-                Entry::Valid { .. }
-                    | Entry::Registered {
-                        is_pending: false,
-                        ..
-                    }
-            )
-        };
-        self.set(word)
-            .iter()
-            .find(|place| may_go(place.1))
-            .map(|place| place.0)
-    }
-}
-
 pub struct Node<'a> {
     pub core: u32,
+    /// Its own event, if it has one.
+    pub own: Option<Own>,
     program: &'a Program,
     phase: u32,
     task: Option<Task<'a>>,
-    next: Option<Need>,
+    next: Next,
+    /// Where the word of the next load or store is, if it is in the cache.
+    place: Option<usize>,
     wait: Wait,
     cache: Cache,
     pending: u32,
@@ -105,24 +135,23 @@ pub struct Node<'a> {
 
 impl<'a> Node<'a> {
     pub fn new(program: &'a Program, core: u32) -> Node<'a> {
-        let sets = (0..program.sets).map(|_| Vec::new()).collect();
         let mut node = Node {
             core,
+            own: None,
             program,
             phase: 0,
             task: None,
-            next: None,
+            next: Next::Nothing,
+            place: None,
             wait: Wait::Nothing,
-            cache: Cache {
-                sets,
-                ways: program.ways as usize,
-            },
+            cache: Cache::new(program.sets, program.ways),
             pending: 0,
             signatures: Vec::new(),
             has_arrived: false,
             is_halted: program.phases.is_empty(),
         };
         node.begin(0);
+        node.own = node.find_own();
         node
     }
 
@@ -135,10 +164,11 @@ impl<'a> Node<'a> {
     }
 
     /// Looks at the next instruction.
+    #[inline(never)]
     fn look(&mut self) {
         self.next = match &self.task {
-            Some(task) if task.end.is_none() => Some(task.need(self.program)),
-            _ => None,
+            Some(task) if task.end.is_none() => task.next(self.program),
+            _ => Next::Nothing,
         };
     }
 
@@ -146,83 +176,111 @@ impl<'a> Node<'a> {
         Actor::Bank(word % self.program.banks)
     }
 
-    /// The core's own event, if it has one.
-    pub fn own(&self) -> Option<Event> {
-        if self.is_halted || self.has_arrived {
+    fn find_own(&mut self) -> Option<Own> {
+        if self.is_halted
+            || self.has_arrived
+            || matches!(self.wait, Wait::Reading(_) | Wait::Locking(_))
+        {
             return None;
         }
-        if matches!(self.wait, Wait::Reading(_) | Wait::Locking(_)) {
-            return None;
-        }
+        self.going()
+    }
+
+    /// The own event of a core that waits neither for a message nor at the barrier.
+    #[inline(always)]
+    fn going(&mut self) -> Option<Own> {
         match self.next {
-            None => (self.pending == 0).then_some(Event::Arrive),
-            Some(Need::Release(_)) => (self.pending == 0).then_some(Event::Instr),
-            Some(Need::Load { word } | Need::Store { word, .. }) => self.access(word),
-            Some(_) => Some(Event::Instr),
+            Next::Nothing => (self.pending == 0).then_some(Own::Arrive),
+            Next::Release(_) => (self.pending == 0).then_some(Own::Instr),
+            Next::Load { word, .. } | Next::Store { word, .. } => self.access(word),
+            _ => Some(Own::Instr),
         }
     }
 
     /// What comes next where the next instruction loads or stores the word.
-    fn access(&self, word: u32) -> Option<Event> {
-        let set = self.cache.set(word);
-        match set.iter().find(|place| place.0 == word) {
-            Some((_, Entry::Leaving { .. })) => None,
-            Some(_) => Some(Event::Instr),
-            None if set.len() < self.cache.ways => Some(Event::Instr),
+    fn access(&mut self, word: u32) -> Option<Own> {
+        self.place = self.cache.find(word);
+        match self.place {
+            Some(place) if self.cache.entries[place].state == State::Leaving => None,
+            Some(_) => Some(Own::Instr),
+            None if self.cache.room_for(word).is_some() => Some(Own::Instr),
             None if self.wait != Wait::Nothing => None,
-            None => self.cache.victim(word).map(Event::Evict),
+            None => self.cache.victim(word).map(Own::Evict),
         }
     }
 
     /// Makes its own event, and tells what is sent.
-    pub fn make(&mut self, event: Event) -> Option<Sent> {
-        match event {
-            Event::Instr => self.retire(),
-            Event::Evict(word) => self.evict(word),
-            Event::Arrive => Some(self.arrive()),
-            Event::Handle { .. } => None,
+    #[inline(always)]
+    pub fn make(&mut self, own: Own) -> Option<Sent> {
+        match own {
+            Own::Instr => self.retire(),
+            Own::Evict(word) => {
+                let sent = self.evict(word);
+                self.own = self.find_own();
+                sent
+            }
+            Own::Arrive => {
+                self.own = None;
+                Some(self.arrive())
+            }
         }
     }
 
+    #[inline(always)]
     fn retire(&mut self) -> Option<Sent> {
-        let (program, need) = (self.program, self.next?);
         let task = self.task.as_mut()?;
         let mut sent = None;
-        match need {
-            Need::Local => task.local(program),
-            Need::End(end) => task.stop(end),
-            Need::Acquire(lock) => {
-                self.wait = Wait::Locking(lock);
-                sent = Some((
-                    Actor::Bank(lock % program.banks),
-                    Message::Acquire {
-                        lock,
-                        core: self.core,
-                    },
-                ));
+        match self.next {
+            Next::Compute { rd, value, goal } => task.complete(rd, value, goal),
+            Next::Load { word, rd, kind, at } => {
+                let Some(place) = self.place else {
+                    return self.ask(word);
+                };
+                let value = self.load(place);
+                self.task.as_mut()?.loaded(rd, part_of(value, kind, at));
             }
-            Need::Release(lock) => {
+            Next::Store { word, mask, bits } => {
+                if self.place.is_none() && mask != u32::MAX {
+                    return self.ask(word);
+                }
+                sent = self.store(word, mask, bits);
+            }
+            Next::End(end) => {
+                task.stop(end);
+                self.next = Next::Nothing;
+                self.own = self.going();
+                return None;
+            }
+            Next::Acquire(lock) => {
+                self.wait = Wait::Locking(lock);
+                self.own = None;
+                let message = Message::Acquire {
+                    lock,
+                    core: self.core,
+                };
+                return Some((Actor::Bank(lock % self.program.banks), message));
+            }
+            Next::Release(lock) => {
                 task.held &= !(1 << lock);
                 task.retire();
-                let signature = self.signatures[lock as usize];
-                sent = Some((
-                    Actor::Bank(lock % program.banks),
-                    Message::Release {
-                        lock,
-                        core: self.core,
-                        signature,
-                    },
-                ));
+                let message = Message::Release {
+                    lock,
+                    core: self.core,
+                    signature: Box::new(self.signatures[lock as usize]),
+                };
+                sent = Some((Actor::Bank(lock % self.program.banks), message));
             }
-            Need::Load { word } => sent = self.load(word),
-            Need::Store { word, is_whole } => sent = self.store(word, is_whole),
+            Next::Nothing => return None,
         }
-        self.look();
+        self.next = self.task.as_ref()?.next(self.program);
+        self.own = self.going();
         sent
     }
 
+    #[cold]
     fn ask(&mut self, word: u32) -> Option<Sent> {
         self.wait = Wait::Reading(word);
+        self.own = None;
         Some((
             self.home(word),
             Message::ReadReq {
@@ -232,74 +290,48 @@ impl<'a> Node<'a> {
         ))
     }
 
-    fn load(&mut self, word: u32) -> Option<Sent> {
-        let Some(entry) = self.cache.entry(word) else {
-            return self.ask(word);
-        };
-        let task = self.task.as_mut()?;
-        let value = match entry {
-            Entry::Valid { value, is_marked } => {
-                let is_plain = task.decl.reads.has(word) || task.decl.writes.has(word);
-                self.cache.put(
-                    word,
-                    Entry::Valid {
-                        value,
-                        is_marked: is_marked || is_plain,
-                    },
-                );
-                value
-            }
-            Entry::Registered { value, .. } | Entry::Leaving { value } => {
-                self.cache.put(word, entry);
-                value
-            }
-        };
-        task.loaded(self.program, value);
+    /// The value of the word at this place, which is used.
+    fn load(&mut self, place: usize) -> u32 {
         self.wait = Wait::Nothing;
-        None
+        self.cache.uses += 1;
+        let entry = &mut self.cache.entries[place];
+        entry.used = self.cache.uses;
+        if entry.state == State::Valid {
+            if let Some(task) = &self.task {
+                if task.decl.reads.has(entry.word) || task.decl.writes.has(entry.word) {
+                    entry.state = State::Marked;
+                }
+            }
+        }
+        entry.value
     }
 
-    fn store(&mut self, word: u32, is_whole: bool) -> Option<Sent> {
-        let entry = self.cache.entry(word);
-        if entry.is_none() && !is_whole {
-            return self.ask(word);
-        }
+    fn store(&mut self, word: u32, mask: u32, bits: u32) -> Option<Sent> {
         let task = self.task.as_mut()?;
-        let old = match entry {
-            Some(
-                Entry::Valid { value, .. }
-                | Entry::Registered { value, .. }
-                | Entry::Leaving { value },
-            ) => value,
-            None => 0,
-        };
-        let value = task.merged(self.program, old);
-        let is_new = match entry {
-            Some(Entry::Registered { is_pending, .. }) => {
-                self.cache
-                    .put(word, Entry::Registered { value, is_pending });
-                false
+        let (place, old, state) = match self.place {
+            Some(place) => {
+                let entry = self.cache.entries[place];
+                (place, entry.value, entry.state)
             }
-            _ => {
-                self.cache.put(
-                    word,
-                    Entry::Registered {
-                        value,
-                        is_pending: true,
-                    },
-                );
-                self.pending += 1;
-                true
-            }
+            None => (self.cache.room_for(word)?, 0, State::Valid),
         };
-        for (lock, guarded) in task.decl.gwrites.iter().enumerate() {
-            if task.held >> lock & 1 == 1 && guarded.has(word) {
-                self.signatures[lock].insert(word, self.phase);
+        let is_new = !matches!(state, State::Registered | State::Pending);
+        let state = if is_new { State::Pending } else { state };
+        self.cache.put(place, word, old & !mask | bits, state);
+        if task.held != 0 {
+            for (lock, guarded) in task.decl.gwrites.iter().enumerate() {
+                if task.held >> lock & 1 == 1 && guarded.has(word) {
+                    self.signatures[lock].insert(word, self.phase);
+                }
             }
         }
         task.retire();
         self.wait = Wait::Nothing;
-        is_new.then_some((
+        if !is_new {
+            return None;
+        }
+        self.pending += 1;
+        Some((
             self.home(word),
             Message::RegReq {
                 word,
@@ -309,23 +341,22 @@ impl<'a> Node<'a> {
     }
 
     fn evict(&mut self, word: u32) -> Option<Sent> {
-        match self.cache.entry(word)? {
-            Entry::Registered { value, .. } => {
-                self.cache.change(word, Entry::Leaving { value });
-                Some((
-                    self.home(word),
-                    Message::WriteBack {
-                        word,
-                        value,
-                        core: self.core,
-                    },
-                ))
-            }
-            _ => {
-                self.cache.remove(word);
-                None
-            }
+        let home = self.home(word);
+        let place = self.cache.find(word)?;
+        let entry = &mut self.cache.entries[place];
+        if entry.state != State::Registered {
+            entry.word = NO_WORD;
+            return None;
         }
+        entry.state = State::Leaving;
+        Some((
+            home,
+            Message::WriteBack {
+                word,
+                value: entry.value,
+                core: self.core,
+            },
+        ))
     }
 
     fn arrive(&mut self) -> Sent {
@@ -343,46 +374,48 @@ impl<'a> Node<'a> {
         )
     }
 
+    /// The entry of a word that is in this state.
+    fn entry_in(&mut self, word: u32, state: State) -> Option<&mut Entry> {
+        let place = self.cache.find(word)?;
+        let entry = &mut self.cache.entries[place];
+        (entry.state == state).then_some(entry)
+    }
+
     /// Handles a message, and tells what is sent and the grant that came.
     pub fn receive(&mut self, message: Message) -> (Option<Sent>, Option<Grant>) {
+        let told = self.react(message);
+        self.own = self.find_own();
+        told
+    }
+
+    fn react(&mut self, message: Message) -> (Option<Sent>, Option<Grant>) {
         match message {
             Message::Grant { lock, signature } => return (None, self.granted(lock, &signature)),
             Message::Go { phase } => self.go(phase),
             Message::Halt => self.is_halted |= self.has_arrived,
             Message::DataReply { word, value } => self.filled(word, value),
             Message::RegAck { word } => {
-                if let Some(Entry::Registered {
-                    value,
-                    is_pending: true,
-                }) = self.cache.entry(word)
-                {
-                    self.cache.change(
-                        word,
-                        Entry::Registered {
-                            value,
-                            is_pending: false,
-                        },
-                    );
+                if let Some(entry) = self.entry_in(word, State::Pending) {
+                    entry.state = State::Registered;
                     self.pending -= 1;
                 }
             }
             Message::WbAck { word } => {
-                if let Some(Entry::Leaving { .. }) = self.cache.entry(word) {
-                    self.cache.remove(word);
+                if let Some(entry) = self.entry_in(word, State::Leaving) {
+                    entry.word = NO_WORD;
                 }
             }
             Message::RegFwd { word, core } => {
-                if let Some(Entry::Registered {
-                    is_pending: false, ..
-                }) = self.cache.entry(word)
-                {
-                    self.cache.remove(word);
+                if let Some(entry) = self.entry_in(word, State::Registered) {
+                    entry.word = NO_WORD;
                 }
                 return (Some((Actor::Core(core), Message::RegAck { word })), None);
             }
             Message::ReadFwd { word, core } => {
-                let sent = match self.cache.entry(word) {
-                    Some(Entry::Registered { value, .. } | Entry::Leaving { value }) => {
+                let found = self.cache.find(word).map(|place| self.cache.entries[place]);
+                let sent = match found {
+                    Some(entry) if !matches!(entry.state, State::Valid | State::Marked) => {
+                        let value = entry.value;
                         (Actor::Core(core), Message::DataReply { word, value })
                     }
                     _ => (self.home(word), Message::ReadReq { word, core }),
@@ -395,17 +428,11 @@ impl<'a> Node<'a> {
     }
 
     fn filled(&mut self, word: u32, value: u32) {
-        if self.wait == Wait::Reading(word)
-            && self.cache.entry(word).is_none()
-            && self.cache.has_room(word)
-        {
-            self.cache.put(
-                word,
-                Entry::Valid {
-                    value,
-                    is_marked: false,
-                },
-            );
+        if self.wait != Wait::Reading(word) || self.cache.find(word).is_some() {
+            return;
+        }
+        if let Some(place) = self.cache.room_for(word) {
+            self.cache.put(place, word, value, State::Valid);
             self.wait = Wait::Filled;
         }
     }
@@ -414,17 +441,10 @@ impl<'a> Node<'a> {
         if self.wait != Wait::Locking(lock) {
             return None;
         }
-        let (phase, guarded) = (
-            self.phase,
-            &self.program.phases[self.phase as usize].guarded[lock as usize],
-        );
-        for set in &mut self.cache.sets {
-            set.retain(|&(word, entry)| {
-                !(matches!(entry, Entry::Valid { .. })
-                    && guarded.has(word)
-                    && signature.may_hold(word, phase))
-            });
-        }
+        let phase = self.phase;
+        let guarded = &self.program.phases[phase as usize].guarded[lock as usize];
+        self.cache
+            .drop_copies(|word, _| guarded.has(word) && signature.may_hold(word, phase));
         self.signatures[lock as usize] = signature.in_phase(phase);
         let task = self.task.as_mut()?;
         task.held |= 1 << lock;
@@ -444,15 +464,12 @@ impl<'a> Node<'a> {
             return;
         }
         let written = &self.program.phases[self.phase as usize].written;
-        for set in &mut self.cache.sets {
-            set.retain_mut(|(word, entry)| match entry {
-                Entry::Valid { is_marked, .. } => {
-                    let stays = *is_marked || !written.has(*word);
-                    *is_marked = false;
-                    stays
-                }
-                _ => true,
-            });
+        self.cache
+            .drop_copies(|word, state| state == State::Valid && written.has(word));
+        for entry in &mut self.cache.entries {
+            if entry.state == State::Marked {
+                entry.state = State::Valid;
+            }
         }
         self.has_arrived = false;
         self.begin(phase);
@@ -471,10 +488,12 @@ impl<'a> Node<'a> {
 
     /// The value that it holds of a word, and whether it is about to register it.
     pub fn value(&self, word: u32) -> Option<(u32, bool)> {
-        match self.cache.entry(word)? {
-            Entry::Registered { value, is_pending } => Some((value, is_pending)),
-            Entry::Leaving { value } => Some((value, false)),
-            Entry::Valid { .. } => None,
+        let entry = self.cache.entries[self.cache.find(word)?];
+        match entry.state {
+            State::Registered => Some((entry.value, false)),
+            State::Pending => Some((entry.value, true)),
+            State::Leaving => Some((entry.value, false)),
+            State::Valid | State::Marked => None,
         }
     }
 }

@@ -204,27 +204,89 @@ pub fn decode(word: u32) -> Option<Instr> {
     })
 }
 
+/// Why an instruction can't retire.
+#[derive(Clone, Copy, PartialEq, Eq, PartialOrd, Ord)]
+pub enum Trap {
+    Fetch,
+    Illegal,
+    Target,
+    Misaligned,
+    Outside,
+    Break,
+    Call,
+    NoLock,
+    Held,
+    NotHeld,
+    HeldEnd,
+}
+
+const TRAPS: [&str; 11] = [
+    "fetch",
+    "illegal",
+    "target",
+    "misaligned",
+    "outside",
+    "break",
+    "call",
+    "nolock",
+    "held",
+    "nothold",
+    "heldend",
+];
+
+impl Trap {
+    pub fn name(self) -> &'static str {
+        TRAPS[self as usize]
+    }
+}
+
 #[derive(Clone, Copy, PartialEq, Eq, PartialOrd, Ord)]
 pub enum End {
     Finished,
     Fuel,
-    Trap {
-        kind: &'static str,
-        pc: u32,
-        value: u32,
-    },
+    Trap { kind: Trap, pc: u32, value: u32 },
     Waits(u32),
 }
 
-/// What the next instruction of a task needs.
+/// What the next instruction of a task needs, with all that completing it takes.
 #[derive(Clone, Copy)]
-pub enum Need {
-    Local,
-    End(End),
-    Load { word: u32 },
-    Store { word: u32, is_whole: bool },
+pub enum Next {
+    /// Nothing: the task has ended.
+    Nothing,
+    /// It puts this value into a register, and goes on there.
+    Compute {
+        rd: u8,
+        value: u32,
+        goal: u32,
+    },
+    /// It puts this part of the word into a register.
+    Load {
+        word: u32,
+        rd: u8,
+        kind: u8,
+        at: u8,
+    },
+    /// It replaces the bits of the mask in the word.
+    Store {
+        word: u32,
+        mask: u32,
+        bits: u32,
+    },
     Acquire(u32),
     Release(u32),
+    End(End),
+}
+
+/// The part of a word's value that a load of this kind gives, at this byte of the word.
+pub fn part_of(value: u32, kind: u8, at: u8) -> u32 {
+    let part = value >> (8 * at);
+    match kind {
+        0 => part as u8 as i8 as u32,
+        1 => part as u16 as i16 as u32,
+        2 => part,
+        4 => u32::from(part as u8),
+        _ => u32::from(part as u16),
+    }
 }
 
 pub struct Task<'a> {
@@ -259,201 +321,179 @@ impl<'a> Task<'a> {
         if decl.writes.has(word) || !is_store && decl.reads.has(word) {
             return true;
         }
-        (0..decl.gwrites.len()).any(|lock| {
-            self.holds(lock as u32)
-                && (decl.gwrites[lock].has(word) || !is_store && decl.greads[lock].has(word))
-        })
+        self.held != 0
+            && (0..decl.gwrites.len()).any(|lock| {
+                self.holds(lock as u32)
+                    && (decl.gwrites[lock].has(word) || !is_store && decl.greads[lock].has(word))
+            })
     }
 
-    fn trap(&self, kind: &'static str, value: u32) -> Need {
-        Need::End(End::Trap {
+    #[cold]
+    fn trap(&self, kind: Trap, value: u32) -> Next {
+        Next::End(End::Trap {
             kind,
             pc: self.pc,
             value,
         })
     }
 
-    fn instr(&self, program: &Program) -> Instr {
-        program.decoded[(self.pc - 0x1000) as usize / 4].expect("an instruction was looked at")
+    fn reg(&self, register: u8) -> u32 {
+        self.regs[register as usize & 31]
     }
 
-    pub fn need(&self, program: &Program) -> Need {
+    /// What the next instruction needs. The task hasn't ended.
+    #[inline(always)]
+    pub fn next(&self, program: &Program) -> Next {
         if self.retired == program.fuel {
-            return Need::End(End::Fuel);
+            return Next::End(End::Fuel);
         }
-        let place = self.pc.wrapping_sub(0x1000) as usize / 4;
-        if self.pc % 4 != 0 || self.pc < 0x1000 || place >= program.code.len() {
-            return self.trap("fetch", self.pc);
-        }
-        let Some(instr) = program.decoded[place] else {
-            return self.trap("illegal", program.code[place]);
+        let place = self.pc.wrapping_sub(0x1000).rotate_right(2) as usize;
+        let Some(decoded) = program.decoded.get(place) else {
+            return self.trap(Trap::Fetch, self.pc);
         };
-        let regs = &self.regs;
-        let goes_to = |goal: u32| {
-            if goal % 4 == 0 {
-                Need::Local
-            } else {
-                self.trap("target", goal)
-            }
+        let Some(instr) = *decoded else {
+            return self.trap(Trap::Illegal, program.code[place]);
         };
+        let below = self.pc.wrapping_add(4);
         match instr {
+            Instr::OpImm { op, rd, a, imm } => Next::Compute {
+                rd,
+                value: op.of(self.reg(a), imm),
+                goal: below,
+            },
+            Instr::Op { op, rd, a, b } => Next::Compute {
+                rd,
+                value: op.of(self.reg(a), self.reg(b)),
+                goal: below,
+            },
             Instr::Branch { kind, a, b, offset } => {
-                if is_taken(kind, regs[a as usize], regs[b as usize]) {
-                    return goes_to(self.pc.wrapping_add(offset));
-                }
-                Need::Local
-            }
-            Instr::Jal { offset, .. } => goes_to(self.pc.wrapping_add(offset)),
-            Instr::Jalr { base, offset, .. } => {
-                goes_to(regs[base as usize].wrapping_add(offset) & !1)
+                let is_taken = is_taken(kind, self.reg(a), self.reg(b));
+                self.jump(
+                    0,
+                    0,
+                    if is_taken {
+                        self.pc.wrapping_add(offset)
+                    } else {
+                        below
+                    },
+                )
             }
             Instr::Load {
-                kind, base, offset, ..
-            } => self.access(
-                program,
-                regs[base as usize].wrapping_add(offset),
                 kind,
-                false,
-            ),
+                rd,
+                base,
+                offset,
+            } => {
+                let at = self.reg(base).wrapping_add(offset);
+                match self.accessed(program, at, kind, false) {
+                    Ok(word) => Next::Load {
+                        word,
+                        rd,
+                        kind: kind as u8,
+                        at: at as u8 & 3,
+                    },
+                    Err(kind) => self.trap(kind, at),
+                }
+            }
             Instr::Store {
-                kind, base, offset, ..
-            } => self.access(
-                program,
-                regs[base as usize].wrapping_add(offset),
                 kind,
-                true,
-            ),
-            Instr::Ebreak => self.trap("break", 0),
+                from,
+                base,
+                offset,
+            } => {
+                let at = self.reg(base).wrapping_add(offset);
+                match self.accessed(program, at, kind, true) {
+                    Ok(word) => {
+                        let mask = (u32::MAX >> (32 - (8 << kind))) << (8 * (at & 3));
+                        Next::Store {
+                            word,
+                            mask,
+                            bits: self.reg(from) << (8 * (at & 3)) & mask,
+                        }
+                    }
+                    Err(kind) => self.trap(kind, at),
+                }
+            }
+            Instr::Const { rd, value } => Next::Compute {
+                rd,
+                value,
+                goal: below,
+            },
+            Instr::Auipc { rd, value } => Next::Compute {
+                rd,
+                value: self.pc.wrapping_add(value),
+                goal: below,
+            },
+            Instr::Jal { rd, offset } => self.jump(rd, below, self.pc.wrapping_add(offset)),
+            Instr::Jalr { rd, base, offset } => {
+                self.jump(rd, below, self.reg(base).wrapping_add(offset) & !1)
+            }
+            Instr::Fence => Next::Compute {
+                rd: 0,
+                value: 0,
+                goal: below,
+            },
+            Instr::Ebreak => self.trap(Trap::Break, 0),
             Instr::Ecall => self.call(program),
-            _ => Need::Local,
         }
     }
 
-    fn access(&self, program: &Program, at: u32, kind: u32, is_store: bool) -> Need {
+    fn jump(&self, rd: u8, value: u32, goal: u32) -> Next {
+        if goal % 4 == 0 {
+            Next::Compute { rd, value, goal }
+        } else {
+            self.trap(Trap::Target, goal)
+        }
+    }
+
+    /// The word at an address, where an access of this kind may use it.
+    fn accessed(&self, program: &Program, at: u32, kind: u32, is_store: bool) -> Result<u32, Trap> {
         let width = 1 << (kind & 3);
-        if at % width != 0 {
-            return self.trap("misaligned", at);
+        if at & (width - 1) != 0 {
+            return Err(Trap::Misaligned);
         }
         let word = at.wrapping_sub(0x1000_0000) / 4;
         if at < 0x1000_0000
             || word as usize >= program.memory.len()
             || !self.may_use(word, is_store)
         {
-            return self.trap("outside", at);
+            return Err(Trap::Outside);
         }
-        if is_store {
-            Need::Store {
-                word,
-                is_whole: width == 4,
-            }
-        } else {
-            Need::Load { word }
-        }
+        Ok(word)
     }
 
-    fn call(&self, program: &Program) -> Need {
+    #[cold]
+    fn call(&self, program: &Program) -> Next {
         let (call, lock) = (self.regs[17], self.regs[10]);
         match call {
-            0 if self.held != 0 => self.trap("heldend", self.held.trailing_zeros()),
-            0 => Need::End(End::Finished),
-            1 | 2 if lock >= program.locks => self.trap("nolock", lock),
-            1 if self.holds(lock) => self.trap("held", lock),
-            1 => Need::Acquire(lock),
-            2 if self.holds(lock) => Need::Release(lock),
-            2 => self.trap("nothold", lock),
-            _ => self.trap("call", call),
+            0 if self.held != 0 => self.trap(Trap::HeldEnd, self.held.trailing_zeros()),
+            0 => Next::End(End::Finished),
+            1 | 2 if lock >= program.locks => self.trap(Trap::NoLock, lock),
+            1 if self.holds(lock) => self.trap(Trap::Held, lock),
+            1 => Next::Acquire(lock),
+            2 if self.holds(lock) => Next::Release(lock),
+            2 => self.trap(Trap::NotHeld, lock),
+            _ => self.trap(Trap::Call, call),
         }
     }
 
-    fn write(&mut self, rd: u8, value: u32) {
-        if rd != 0 {
-            self.regs[rd as usize] = value;
-        }
-    }
-
+    /// An instruction retires that changes no register.
     pub fn retire(&mut self) {
-        self.retire_to(self.pc.wrapping_add(4));
+        self.pc = self.pc.wrapping_add(4);
+        self.retired += 1;
     }
 
-    fn retire_to(&mut self, goal: u32) {
+    /// An instruction retires that puts this value into a register, and the task goes on there.
+    pub fn complete(&mut self, rd: u8, value: u32, goal: u32) {
+        self.regs[rd as usize & 31] = value;
+        self.regs[0] = 0;
         self.pc = goal;
         self.retired += 1;
     }
 
-    pub fn local(&mut self, program: &Program) {
-        let mut goal = self.pc.wrapping_add(4);
-        let link = goal;
-        match self.instr(program) {
-            Instr::Const { rd, value } => self.write(rd, value),
-            Instr::Auipc { rd, value } => self.write(rd, self.pc.wrapping_add(value)),
-            Instr::Jal { rd, offset } => {
-                goal = self.pc.wrapping_add(offset);
-                self.write(rd, link);
-            }
-            Instr::Jalr { rd, base, offset } => {
-                goal = self.regs[base as usize].wrapping_add(offset) & !1;
-                self.write(rd, link);
-            }
-            Instr::Branch { kind, a, b, offset } => {
-                if is_taken(kind, self.regs[a as usize], self.regs[b as usize]) {
-                    goal = self.pc.wrapping_add(offset);
-                }
-            }
-            Instr::OpImm { op, rd, a, imm } => self.write(rd, op.of(self.regs[a as usize], imm)),
-            Instr::Op { op, rd, a, b } => {
-                self.write(rd, op.of(self.regs[a as usize], self.regs[b as usize]))
-            }
-            _ => {}
-        }
-        self.retire_to(goal);
-    }
-
-    pub fn loaded(&mut self, program: &Program, value: u32) {
-        if let Instr::Load {
-            kind,
-            rd,
-            base,
-            offset,
-        } = self.instr(program)
-        {
-            let at = self.regs[base as usize].wrapping_add(offset) & 3;
-            let bits = 8 << (kind & 3);
-            let part = value >> (8 * at);
-            let part = if bits == 32 {
-                part
-            } else {
-                part & ((1 << bits) - 1)
-            };
-            self.write(
-                rd,
-                if kind & 4 != 0 {
-                    part
-                } else {
-                    signed(part, bits)
-                },
-            );
-        }
-        self.retire();
-    }
-
-    /// A word in which the next instruction stores.
-    pub fn merged(&self, program: &Program, old: u32) -> u32 {
-        let Instr::Store {
-            kind,
-            from,
-            base,
-            offset,
-        } = self.instr(program)
-        else {
-            return old;
-        };
-        let at = self.regs[base as usize].wrapping_add(offset) & 3;
-        let part = if kind == 2 {
-            u32::MAX
-        } else {
-            (1 << (8 << kind)) - 1
-        };
-        old & !(part << (8 * at)) | (self.regs[from as usize] & part) << (8 * at)
+    /// A load retires.
+    pub fn loaded(&mut self, rd: u8, value: u32) {
+        self.complete(rd, value, self.pc.wrapping_add(4));
     }
 
     pub fn stop(&mut self, end: End) {

@@ -1,7 +1,7 @@
 //! The run by workers: each owns cores and banks, and makes passes over what all share, an inbox of each core, the banks with
 //! their inboxes, and the keeper with its own, each under a `Mutex`.
 use crate::homes::{Bank, Keeper};
-use crate::mail::{Actor, Draws, Event, Grant, Mail, Noted, Sender, Sent};
+use crate::mail::{Actor, Draws, Event, Grant, Mail, Noted, Own, Sender, Sent};
 use crate::node::Node;
 use crate::program::Program;
 use crate::task::End;
@@ -84,10 +84,10 @@ fn handling(mail: &Mail, stamp: u64, actor: Actor, granted: Option<Grant>) -> No
 impl Hall {
     fn post_to<T>(&self, place: &Mutex<Shared<T>>, worker: u32, mail: Mail) {
         let mut shared = place.lock().unwrap();
-        shared.inbox.push(mail);
         if self.keeps_histories {
-            shared.calls.push((worker, Call::Posted(mail)));
+            shared.calls.push((worker, Call::Posted(mail.clone())));
         }
+        shared.inbox.push(mail);
     }
 
     fn post(&self, worker: u32, mail: Mail) {
@@ -102,6 +102,7 @@ impl Hall {
         let mut port = self.ports[core as usize].lock().unwrap();
         let mail = port.take(pick);
         if self.keeps_histories {
+            let mail = mail.clone();
             port.calls.push((worker, Call::Taken { pick, mail }));
         }
         mail
@@ -112,11 +113,13 @@ impl Hall {
         let stepped = shared.take(pick).map(|mail| {
             let Homes { bank, sender } = &mut shared.own;
             let stamp = sender.tick(mail.stamp);
+            let noted = handling(&mail, stamp, sender.actor, None);
             let reply = bank.handle(mail.message).map(|sent| sender.mail(sent));
-            (handling(&mail, stamp, sender.actor, None), reply)
+            (noted, reply)
         });
         if self.keeps_histories {
-            let (noted, reply) = (stepped.map(|s| s.0), stepped.and_then(|s| s.1));
+            let noted = stepped.as_ref().map(|s| s.0);
+            let reply = stepped.as_ref().and_then(|s| s.1.clone());
             shared
                 .calls
                 .push((worker, Call::Stepped { pick, noted, reply }));
@@ -129,13 +132,14 @@ impl Hall {
         let stepped = shared.take(pick).map(|mail| {
             let Barrier { keeper, sender } = &mut shared.own;
             let stamp = sender.tick(mail.stamp);
+            let noted = handling(&mail, stamp, Actor::Keeper, None);
             let letter = keeper.handle(mail.message);
             let letters = letter.map_or(Vec::new(), |message| {
                 (0..cores)
-                    .map(|core| sender.mail((Actor::Core(core), message)))
+                    .map(|core| sender.mail((Actor::Core(core), message.clone())))
                     .collect()
             });
-            (handling(&mail, stamp, Actor::Keeper, None), letters)
+            (noted, letters)
         });
         if self.keeps_histories {
             let noted = stepped.as_ref().map(|s| s.0);
@@ -162,26 +166,25 @@ struct Owned<'a> {
 }
 
 impl Owned<'_> {
-    fn handle(&mut self, mail: &Mail) -> Option<Mail> {
+    fn handle(&mut self, mail: Mail) -> Option<Mail> {
         let stamp = self.sender.tick(mail.stamp);
+        let noted = handling(&mail, stamp, self.sender.actor, None);
         let (sent, granted) = self.node.receive(mail.message);
-        self.log
-            .push(handling(mail, stamp, self.sender.actor, granted));
+        self.log.push(Noted { granted, ..noted });
         self.letter(sent)
     }
 
-    fn make(&mut self, event: Event) -> Option<Mail> {
+    fn make(&mut self, own: Own) -> Option<Mail> {
         let stamp = self.sender.tick(0);
-        let kind = event.own_kind();
-        if let Event::Arrive = event {
+        if let Own::Arrive = own {
             self.ends.extend(self.node.shown());
         }
-        let sent = self.node.make(event);
+        let sent = self.node.make(own);
         self.log.push(Noted {
             stamp,
             actor: self.sender.actor,
-            event,
-            kind,
+            event: Event::Own(own),
+            kind: own.kind(),
             granted: None,
         });
         self.letter(sent)
@@ -207,13 +210,13 @@ impl Crew<'_> {
         for owned in &mut self.cores {
             if let Some(mail) = hall.take(self.worker, owned.node.core, draws.draw()) {
                 made += 1;
-                if let Some(sent) = owned.handle(&mail) {
+                if let Some(sent) = owned.handle(mail) {
                     hall.post(self.worker, sent);
                 }
             }
-            if let Some(event) = owned.node.own() {
+            if let Some(own) = owned.node.own {
                 made += 1;
-                if let Some(sent) = owned.make(event) {
+                if let Some(sent) = owned.make(own) {
                     hall.post(self.worker, sent);
                 }
             }
@@ -339,7 +342,7 @@ fn next_round(hall: &mut Hall, crews: &mut [Crew]) -> bool {
     }
     for owned in crews.iter_mut().flat_map(|crew| &mut crew.cores) {
         owned.sender.clock = 0;
-        comes |= owned.node.own().is_some();
+        comes |= owned.node.own.is_some();
     }
     comes
 }

@@ -147,3 +147,16 @@ pub rank-falls : (rs : List Summary) (lock next : ℕ) → next < 32 → is_on_c
 unfolding rank AreMore
 rank-falls rs lock next low apart before =
     count-falls (leads_to rs next) (leads_to rs lock) 32 next (λ k e. to-further rs lock next k low (to-next rs lock next before) e) low apart (to-next rs lock next before)
+
+count-most : (test : ℕ → Bool) (n : ℕ) → count_to test n ≤ n
+unfolding count_to one_if
+count-most test zero = omega arith
+count-most test (suc n) = by_test (test n) (count-most test n)
+  where
+    by_test : (b : Bool) → count_to test n ≤ n → count_to test n + one_if b ≤ suc n
+    by_test true before = omega (arith, before)
+    by_test false before = omega (arith, before)
+
+pub rank-most : (rs : List Summary) (lock : ℕ) → rank rs lock ≤ 32
+unfolding rank
+rank-most rs lock = count-most (leads_to rs lock) 32

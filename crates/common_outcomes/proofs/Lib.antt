@@ -29,3 +29,6 @@ pub mod EveryRun
 pub mod Lockless
 pub mod OneEnd
 pub mod Joint
+pub mod GivenUp
+pub mod Ranks
+pub mod ControlApart

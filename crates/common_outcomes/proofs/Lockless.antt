@@ -257,7 +257,7 @@ plain-alone S k = plain-steps S (suc S.fuel) (start_alone S) k (plain-start S)
 
 -- ---- it comes to an end
 
-one-more : (S : Setup) (a : Alone) → a.state.end ≡ None → is_settled_next S a ≡ true → (alone_step S a).state.end ≡ None → IsOneMore S.fuel a.state (alone_step S a).state
+pub one-more : (S : Setup) (a : Alone) → a.state.end ≡ None → is_settled_next S a ≡ true → (alone_step S a).state.end ≡ None → IsOneMore S.fuel a.state (alone_step S a).state
 one-more S a runs s on = subst (λ (x : Alone). IsOneMore S.fuel a.state x.state) (sym goes) (by_need (need_of S.program S.decl S.fuel a.state) refl (ap (λ (x : Alone). x.state.end) (sym goes) ∙ on))
   where
     goes : alone_step S a ≡ alone_by S a (need_of S.program S.decl S.fuel a.state)
@@ -277,7 +277,7 @@ one-more S a runs s on = subst (λ (x : Alone). IsOneMore S.fuel a.state x.state
     by_need (need.TheVariants.Release lock) e on = advanced-more S.program S.fuel r (need.TheVariants.Release lock) tt (wants (need.TheVariants.Release lock) e)
     by_need (need.TheVariants.End by) e on = absurd (stopped-some by a.state on)
 
-last-step : (S : Setup) (n : ℕ) → alone_steps S (suc n) (start_alone S) ≡ alone_step S (alone_steps S n (start_alone S))
+pub last-step : (S : Setup) (n : ℕ) → alone_steps S (suc n) (start_alone S) ≡ alone_step S (alone_steps S n (start_alone S))
 last-step S n = let e : suc n ≡ n + 1 = omega arith in ap (λ (j : ℕ). alone_steps S j (start_alone S)) e ∙ more-steps S n 1 (start_alone S)
 
 -- where it goes on after n + 1 instructions, it went on after n, and has retired one more

@@ -114,10 +114,20 @@ pub record IsAnswered (P : ProgramParts) (fuel : ℕ) (common : Common) : Type 0
   pub checked : IsChecked P
   pub answer : outcomes P fuel ≡ answer.TheVariants.Settled common
 
+-- what is known of memory before a phase, where all phases before it are over
+abbrev pub memory_behind : ProgramParts → ℕ → Option Phase → List Value → List Value
+memory_behind P fuel None first = first
+memory_behind P fuel (Some p) first = after_from 0 (summaries P fuel p first) first
+
+abbrev pub memory_before : ProgramParts → ℕ → ℕ → List Value
+memory_before P fuel zero = map known P.memory
+memory_before P fuel (suc k) = memory_behind P fuel (slice_get P.phases k) (memory_before P fuel k)
+
 -- between two phases: what the answer knows of memory, and how the answer goes on
 pub record AtBoundary (P : ProgramParts) (fuel : ℕ) (common : Common) (F : Flat) : Type 0 where
   pub first : List Value
   pub ends : List TaskEnd
+  pub before : first ≡ memory_before P fuel F.begun
   pub answers : answer_from P fuel F.begun (drop F.begun P.phases) ends first ≡ answer.TheVariants.Settled common
   pub past : map (task_end P fuel) (all_tasks F) ≡ ends
   pub count : length first ≡ length P.memory
@@ -136,6 +146,7 @@ pub record InPhase (P : ProgramParts) (fuel : ℕ) (common : Common) (F : Flat) 
   pub ends : List TaskEnd
   pub begun : F.begun ≡ place + 1
   pub there : drop place P.phases ≡ phase ∷ left
+  pub before : first ≡ memory_before P fuel place
   pub answers : answer_from P fuel place (phase ∷ left) ends first ≡ answer.TheVariants.Settled common
   pub past : map (task_end P fuel) F.past ≡ ends
   pub count : length first ≡ length P.memory
@@ -165,6 +176,7 @@ phase-begins P fuel common p F a there done h =
       ends = h.ends;
       begun = refl;
       there = cut;
+      before = h.before;
       answers = answers;
       past = h.past;
       count = h.count;
@@ -347,6 +359,7 @@ phase-passed P fuel common F done h =
     record {
       first = after;
       ends = now;
+      before = before;
       answers = ap (λ (n : ℕ). answer_from P fuel n (drop n P.phases) now after) h.begun ∙ ap (λ (l : List Phase). answer_from P fuel (h.place + 1) l now after) behind ∙ sym goes ∙ h.answers;
       past = over.tasks;
       count = over.count;
@@ -371,6 +384,13 @@ phase-passed P fuel common F done h =
 
     over : IsOver P fuel F now after
     over = phase-over P fuel common F h have
+
+    before : after ≡ memory_before P fuel F.begun
+    before =
+        let number : h.place + 1 ≡ suc h.place = omega arith in
+        let here : slice_get P.phases h.place ≡ Some h.phase = (next-left P (record { begun = h.place; past = []; tasks = []; memory = [] }) h.phase h.left h.there).there in
+        sym (ap (memory_before P fuel) (h.begun ∙ number) ∙ ap (λ (o : Option Phase). memory_behind P fuel o (memory_before P fuel h.place)) here
+        ∙ ap (memory_behind P fuel (Some h.phase)) (sym h.before))
 
     behind : drop (h.place + 1) P.phases ≡ h.left
     behind = (next-left P (record { begun = h.place; past = []; tasks = []; memory = [] }) h.phase h.left h.there).behind
@@ -407,6 +427,7 @@ run-starts P fuel common a =
     record {
       first = map known P.memory;
       ends = [];
+      before = refl;
       answers = first-answers P fuel common a.answer;
       past = refl;
       count = known-length P.memory;
@@ -472,6 +493,7 @@ grant-kept P fuel common F g i r a there can h =
       ends = h.ends;
       begun = h.begun;
       there = h.there;
+      before = h.before;
       answers = h.answers;
       past = h.past;
       count = h.count;

@@ -128,7 +128,7 @@ waits P fuel common F h i r lock there runs wants =
 sum-there : (sides : List Side) (i : ℕ) (s : Side) → slice_get sides i ≡ Some s → slice_get (sums sides) i ≡ Some (summary_of s.setup)
 sum-there sides i s there = place-map (λ (x : Side). summary_of x.setup) sides i s there
 
-are-ranked : (P : ProgramParts) (fuel : ℕ) (common : Common) (F : Flat) → (h : InPhase P fuel common F) → IsShut h.place (sums h.sides) → AreRanked P fuel F.tasks (rank (sums h.sides))
+pub are-ranked : (P : ProgramParts) (fuel : ℕ) (common : Common) (F : Flat) → (h : InPhase P fuel common F) → IsShut h.place (sums h.sides) → AreRanked P fuel F.tasks (rank (sums h.sides))
 are-ranked P fuel common F h shut =
     record {
       falls = λ i r held there runs holds l wants.
@@ -163,7 +163,7 @@ are-ranked P fuel common F h shut =
         let test : ℕ → Bool = λ n. is_held (alone q.setup).state.held n && list_any (takes_elsewhere q.setup.decl n) rs in
         both-ways (test l.0) (no-lock test l.0 none w.low) (and_from (is_held (alone q.setup).state.held l.0) (list_any (takes_elsewhere q.setup.decl l.0) rs) holds' some)
 
-phase-answers : (P : ProgramParts) (fuel : ℕ) (common : Common) (F : Flat) → (h : InPhase P fuel common F) → open_of h.place (summaries P fuel h.phase h.first) ≡ None
+pub phase-answers : (P : ProgramParts) (fuel : ℕ) (common : Common) (F : Flat) → (h : InPhase P fuel common F) → open_of h.place (summaries P fuel h.phase h.first) ≡ None
 phase-answers P fuel common F h =
     answer-shut (open_of h.place (summaries P fuel h.phase h.first)) (list_all has_ended_well (summaries P fuel h.phase h.first)) _ _ common h.answers
 

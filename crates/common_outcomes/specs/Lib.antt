@@ -4,3 +4,4 @@ pub mod Phases
 pub mod Answer
 pub mod Agreeing
 pub mod Laws
+pub mod Apart

@@ -1,8 +1,10 @@
 //! Theorems: what every run of a program has in common. A theorem is a function without effect; its contract states the theorem.
-ghost use Rattle.std.specs.Prelude.{◌≡◌, ◌↔◌, ◌≢◌, ◌<◌, ◌^◌, ℕ, List, length, map, slice_get, slice_index, slice_index_or, Some, None, true};
+ghost use Rattle.std.specs.Prelude.{◌≡◌, ◌↔◌, ◌≢◌, ◌<◌, ◌^◌, ℕ, Bool, List, length, map, slice_get, slice_index, slice_index_or, Some, None, true};
 ghost use Rattle.std.specs.List.{IsAmong};
+ghost use Rattle.dn_base.specs.declared.ids.CoreId.{CoreId};
 ghost use Rattle.dn_base.specs.declared.ids.Grant.{Grant};
-ghost use Rattle.dn_base.specs.declared.status.Outcome.TheVariants.{Stuck};
+ghost use Rattle.dn_base.specs.declared.ids.PhaseId.{PhaseId};
+ghost use Rattle.dn_base.specs.declared.status.Outcome.TheVariants.{Done, Stuck};
 ghost use Rattle.region_table.specs.Program.{ProgramParts, IsProgram};
 ghost use Rattle.region_table.specs.Numbers.{HasWords};
 ghost use Rattle.region_table.specs.declared.declared.Phase.{Phase};
@@ -10,6 +12,7 @@ ghost use Rattle.rv_core.specs.Need.{need_of};
 ghost use Rattle.effect_checker.specs.Checked.{IsChecked};
 ghost use Rattle.flat_machine.specs.declared.ending.FlatEnd.{FlatEnd};
 ghost use Rattle.flat_machine.specs.Ending.{flat_end};
+ghost use Rattle.flat_machine.specs.LockOrder.{IsLockOrder};
 ghost use Rattle.message_net.specs.declared.event.Event.{Event};
 ghost use Rattle.registration_protocol.specs.Node.{Setting};
 ghost use Rattle.machine_rules.specs.State.{initial_state};
@@ -20,7 +23,9 @@ ghost use Rattle.flat_machine.specs.Laws.{at_memory};
 ghost use Rattle.common_outcomes.specs.declared.value.Value.{Value};
 ghost use Rattle.common_outcomes.specs.declared.value.Effect.{Effect};
 ghost use Rattle.common_outcomes.specs.declared.answer.Common.{Common};
-ghost use Rattle.common_outcomes.specs.declared.answer.Outcomes.TheVariants.{Settled};
+ghost use Rattle.common_outcomes.specs.declared.answer.Open.TheVariants.{Control};
+ghost use Rattle.common_outcomes.specs.declared.answer.Outcomes.TheVariants.{Settled, Open as LeftOpen};
+ghost use Rattle.common_outcomes.specs.Apart.{IsControlApart, AreLocksInOrder};
 ghost use Rattle.common_outcomes.specs.Phases.{Summary, summaries, effects_at, after_from, is_on_circle, IsOnCircle};
 ghost use Rattle.common_outcomes.specs.Answer.{outcomes};
 ghost use Rattle.common_outcomes.specs.Laws.{IsCommonTo, IsJoint, HasOneEnd};
@@ -83,4 +88,19 @@ pub fn every_complete_run_has_what_is_common()
 /// without grants.
 pub fn without_locks_nothing_varies()
     ensures { (P : ProgramParts) (fuel : ℕ) → IsProgram P → HasWords P → IsChecked P → length P.locks ≡ 0 → HasOneEnd P fuel }
+{}
+
+/// If the answer of a checked program is settled and done, its locks have an order in each phase. The tasks take their locks by rising
+/// ranks, in every run, and none ends while it holds one.
+pub fn a_settled_answer_that_is_done_has_a_lock_order()
+    ensures { (P : ProgramParts) (fuel : ℕ) (common : Common) → IsProgram P → HasWords P → IsChecked P → outcomes P fuel ≡ Settled common → common.outcome ≡ Done
+        → (rank : ℕ → ℕ → ℕ) × IsLockOrder P fuel rank }
+{}
+
+/// Where the code keeps control apart from memory, the answer is never open for its control (`control`). If, besides, each task alone gives
+/// up its locks before it ends, and no lock is on a circle, the answer is settled (`settles`).
+pub fn the_answer_settles_where_control_depends_on_no_load()
+    ensures control { (P : ProgramParts) (fuel : ℕ) (control : ℕ → Bool) (phase : PhaseId) (core : CoreId) (pc : ℕ) → IsControlApart P control → outcomes P fuel ≡ LeftOpen (Control phase core pc) → ⊥ }
+    ensures settles { (P : ProgramParts) (fuel : ℕ) (control : ℕ → Bool) → IsControlApart P control
+        → ((p : Phase) (first : List Value) → IsAmong P.phases p → AreLocksInOrder (summaries P fuel p first)) → (common : Common) × (outcomes P fuel ≡ Settled common) }
 {}

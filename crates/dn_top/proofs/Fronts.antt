@@ -24,7 +24,7 @@ use Rattle.dn_top.proofs.OneReplay.{no-fault_of_document}
 
 -- ---- texts that are too large
 
-source-large : (x : List ℕ) → 1048576 < length x → source x ≡ Err fault.TheVariants.TooLarge
+pub source-large : (x : List ℕ) → 1048576 < length x → source x ≡ Err fault.TheVariants.TooLarge
 source-large x more = let test : nat_lt 1048576 (length x) ≡ true = grind (arith, nat_tests) in rw test
 
 -- a text with a program isn't too large
@@ -84,13 +84,13 @@ are-alike before after text t is read =
 program-alike : (text t : List ℕ) (Holds : ProgramParts → Type 0) → source text ≡ source t → HasProgram text Holds → HasProgram t Holds
 program-alike text t Holds e h = record { program = h.program; is = sym e ∙ h.is; holds = h.holds }
 
-checked-alike : (text t : List ℕ) (Holds : ProgramParts → Type 0) → source text ≡ source t → HasChecked text Holds → HasChecked t Holds
+pub checked-alike : (text t : List ℕ) (Holds : ProgramParts → Type 0) → source text ≡ source t → HasChecked text Holds → HasChecked t Holds
 checked-alike text t Holds e h = record { program = h.program; is = sym e ∙ h.is; checked = h.checked; holds = h.holds }
 
 no_program-alike : (text t line : List ℕ) → source text ≡ source t → IsNoProgram text line → IsNoProgram t line
 no_program-alike text t line e h = record { fault = h.fault; is = sym e ∙ h.is; says = h.says }
 
-unfit-alike : (text t line : List ℕ) → source text ≡ source t → IsUnfit text line → IsUnfit t line
+pub unfit-alike : (text t line : List ℕ) → source text ≡ source t → IsUnfit text line → IsUnfit t line
 unfit-alike text t line e (inl h) = inl (no_program-alike text t line e h)
 unfit-alike text t line e (inr h) = inr (program-alike text t _ e h)
 

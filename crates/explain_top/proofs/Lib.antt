@@ -1,2 +1,3 @@
 mod Commands
 pub mod Starved
+pub mod ReadLemmas

@@ -3,12 +3,14 @@
 
 mod answering;
 mod command;
+mod laws;
 mod program;
 mod serving;
 mod texts;
 
 pub use answering::{Explanation, answer};
 pub use command::text_name;
+pub use laws::the_bytes_that_are_read_are_enough;
 pub use program::{explain_given, explain_program};
 pub use program_outside::{ReadError, WordsFault};
 pub use serving::{Explain, explain_main};

@@ -6,8 +6,9 @@ ghost use Rattle.explain_top.specs.Serving.{IsNamedServed, Serves, texts_of};
 
 use crate::answering::{Explanation, answer};
 use crate::command::text_name;
+use crate::laws::the_bytes_that_are_read_are_enough;
 use crate::texts::Texts;
-use dn_base::{MOST_OF_TEXT, Memory, Sequence, Sink, Source, Status};
+use dn_base::{MOST_OF_DOCUMENT, MOST_OF_TEXT, Memory, Sequence, Sink, Source, Status};
 use program_outside::{Answers, ReadError, WordsFault, refuse_words, serve};
 use std::alloc::Global;
 
@@ -22,6 +23,13 @@ impl Answers for Explain {
     ghost can_answer = { λ _. Unit {0} };
 
     ghost IsAnswer = { IsOutput };
+
+    ghost most_read = { 536870913 };
+
+    fn reads_at_most() -> usize {
+        the_bytes_that_are_read_are_enough();
+        MOST_OF_DOCUMENT + 1
+    }
 
     fn answer(alloc: Global, text: &Sequence<u8>, told: &[u8]) -> Result<Explanation, Memory> {
         answer(alloc, text.as_slice(), told)

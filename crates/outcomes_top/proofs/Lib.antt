@@ -8,3 +8,4 @@ pub mod PhaseLemmas
 pub mod PrintedLemmas
 pub mod StepLemmas
 pub mod TrackLemmas
+pub mod ReadLemmas

@@ -11,6 +11,7 @@ ghost use Rattle.machine_rules.specs.State.{initial_state};
 ghost use Rattle.machine_rules.specs.Runs.{IsCompleteRun, ending_of_run};
 ghost use Rattle.machine_rules.specs.Sound.{IsReady};
 ghost use Rattle.run_report.specs.Answer.{answer_of};
+ghost use Rattle.program_outside.specs.Serving.{IsEnough};
 ghost use Rattle.outcomes_top.specs.declared.status.OutcomesStatus.TheVariants.{Settled, Refused};
 ghost use Rattle.rv_core.specs.declared.ending.Ending.{Ending};
 ghost use Rattle.outcomes_top.specs.Answers.{OutcomesReply, IsOutcomesAnswer, HasPrinted, settled_reply};
@@ -41,4 +42,9 @@ pub fn without_locks_the_answer_of_the_flat_machine_is_printed()
 /// and the number of words. Each printed line of a word is the answer's line of this word.
 pub fn what_is_printed_stands_in_the_answer()
     ensures { (bytes : List ℕ) (e : Ending) → HasPrinted bytes e → StandsInAnswer bytes e }
+{}
+
+/// What answers as many bytes as are read at most answers every text that begins with them.
+pub fn the_bytes_that_are_read_are_enough()
+    ensures { (fuel : ℕ) → IsEnough (IsOutcomesAnswer fuel) 1048577 }
 {}

@@ -1,15 +1,16 @@
 ghost use Rattle.std.specs.Prelude.{map, string_bytes};
 ghost use Rattle.std.specs.Int.{IsInRange};
 ghost use Rattle.program_outside.specs.Outside.{devices_of};
-ghost use Rattle.program_outside.specs.Serving.{Serves};
+ghost use Rattle.program_outside.specs.Serving.{ServesWithin};
 ghost use Rattle.outcomes_top.specs.Answers.{IsOutcomesAnswer};
 ghost use Rattle.outcomes_top.specs.Command.{outcomes_fuel_of};
 ghost use Rattle.outcomes_top.specs.Status.{outcomes_told};
 
 use crate::answering::{Reply, answer};
+use crate::laws::the_bytes_that_are_read_are_enough;
 use crate::status::OutcomesStatus;
 use crate::words::read_words;
-use dn_base::{Memory, Sink, Source};
+use dn_base::{MOST_OF_TEXT, Memory, Sink, Source};
 use program_outside::{Answers, Program, WordsFault, serve_words};
 use std::alloc::Global;
 
@@ -24,6 +25,13 @@ impl Answers for CommonOutcomes {
     ghost can_answer = { IsInRange 1 32768 };
 
     ghost IsAnswer = { IsOutcomesAnswer };
+
+    ghost most_read = { 1048577 };
+
+    fn reads_at_most() -> usize {
+        the_bytes_that_are_read_are_enough();
+        MOST_OF_TEXT + 1
+    }
 
     fn answer(alloc: Global, asked: &u32, text: &[u8]) -> Result<Reply, Memory> {
         answer(alloc, *asked, text)
@@ -41,7 +49,7 @@ impl Program for CommonOutcomes {
 /// The whole program except its `main`: answers these arguments and this source, and returns how it ended.
 ///
 /// The status is `Usage` if the command doesn't take the words; the source is left alone then. Otherwise the source is read to
-/// its end, or to one byte more than a trace may have, and `answer` gives the answer and its status. The whole answer is made
+/// its end, or to one byte more than a text may have, and `answer` gives the answer and its status. The whole answer is made
 /// before anything is written; then it is written and flushed. The status is `ReadFault` or `WriteFault` if the source or the
 /// sink failed, and `Memory` if there wasn't enough memory. Then the sink has taken at most a prefix of the answer, and nothing
 /// if it didn't fail itself.
@@ -51,7 +59,7 @@ pub fn outcomes_main<S: Source, K: Sink>(
     source: &mut S,
     sink: &mut K,
 ) -> OutcomesStatus
-    ensures serves { Serves outcomes_told IsOutcomesAnswer (outcomes_fuel_of (map string_bytes words.now)) (devices_of S.Source K.Sink source.old sink.old) (devices_of S.Source K.Sink source.new sink.new) result }
+    ensures serves { ServesWithin outcomes_told 1048577 IsOutcomesAnswer (outcomes_fuel_of (map string_bytes words.now)) (devices_of S.Source K.Sink source.old sink.old) (devices_of S.Source K.Sink source.new sink.new) result }
 {
     serve_words::<CommonOutcomes, S, K>(alloc, words, source, sink)
 }

@@ -1,3 +1,4 @@
 pub mod Commands
 pub mod Numerals
 pub mod Replies
+pub mod Wholes

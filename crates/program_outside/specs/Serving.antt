@@ -1,5 +1,6 @@
 -- What a call of a program reads and writes, and what its status says of that.
-use Rattle.std.specs.Prelude.{◌≡◌, ◌⊎◌, ℕ, List, codes, Option, Some, None, Result, Ok, Err}
+use Rattle.std.specs.Prelude.{◌≡◌, ◌⊎◌, ℕ, List, ◌++◌, length, codes, Option, Some, None, IfSome, Result, Ok, Err}
+use Rattle.std.specs.Io.KnownBytes.{Consumes}
 use Rattle.dn_base.specs.declared.failure.Memory.{Memory}
 use Rattle.program_outside.specs.declared.ends.Failure.{Failure}
 use Rattle.program_outside.specs.declared.ends.Failure as failure
@@ -16,6 +17,10 @@ usage_line = codes "refused usage\n"
 abbrev pub IsUnreadFor : ReadError → Failure
 IsUnreadFor reading.TheVariants.Failed = failure.TheVariants.ReadFault
 IsUnreadFor reading.TheVariants.NoMemory = failure.TheVariants.Memory
+
+-- what answers the first bytes of a text, as many as are read at most, answers the text
+abbrev pub IsEnough : {O : Type 0} → (List ℕ → O → Type 0) → ℕ → Type 0
+IsEnough {O} IsAnswer most = (text rest : List ℕ) (out : O) → length text ≡ most → IsAnswer text out → IsAnswer (text ++ rest) out
 
 -- `told` is the status that tells a failure
 module _ {E : Type 0} (told : Failure → E) where
@@ -68,12 +73,34 @@ module _ {E : Type 0} (told : Failure → E) where
   IsDone IsObtained IsAnswer before after status =
       IsServed IsObtained IsAnswer before after status ⊎ (IsUnread before after status ⊎ IsUnheld before after status)
 
-  -- the same, where the text is what was read: to the source's end, or until `most` bytes had come. The source gives at most
-  -- these. Its count of faults is as before except with ReadFault, the sink's except with WriteFault
+  -- what answers a text answers all that the source has, if it tells that
+  abbrev pub StandsForAll : (List ℕ → Output E → Type 0) → SourceState → List ℕ → Type 0
+  StandsForAll IsAnswer source text = IfSome source.bytes (λ all. (out : Output E) → IsAnswer text out → IsAnswer all out)
+
+  -- a text was read: to the source's end, or its first `most` bytes, which stand for all that the source had
+  pub record IsReadFor (IsAnswer : List ℕ → Output E → Type 0) (most : ℕ) (before after : SourceState) (text : List ℕ) : Type 0 where
+    pub read : IsRead before after most text
+    pub all : StandsForAll IsAnswer before text
+
+  -- a text was read and answered, or there was none. The source gives at most `most` bytes. Its count of faults is as before except
+  -- with ReadFault, the sink's except with WriteFault
   abbrev pub IsSourceServed : ℕ → (List ℕ → Output E → Type 0) → Devices → Devices → E → Type 0
   IsSourceServed most IsAnswer before after status =
       GaveAtMost before.source after.source most
-      × IsDone (λ (old new : SourceState) (text : List ℕ). IsRead old new most text) IsAnswer before after status
+      × IsDone (λ (old new : SourceState) (text : List ℕ). IsReadFor IsAnswer most old new text) IsAnswer before after status
+
+  -- some bytes were taken of the source and no read failed; they stand for all that the source had
+  pub record IsTakenFor (IsAnswer : List ℕ → Output E → Type 0) (before after : SourceState) (text : List ℕ) : Type 0 where
+    pub bytes : Consumes before.bytes after.bytes text
+    pub faultless : after.faults ≡ before.faults
+    pub all : StandsForAll IsAnswer before text
+
+  -- the same for every program, whatever it reads at most: all that the source had was answered, or there was no text. The source
+  -- gives at most one byte more than a document may have
+  abbrev pub IsInputServed : (List ℕ → Output E → Type 0) → Devices → Devices → E → Type 0
+  IsInputServed IsAnswer before after status =
+      GaveAtMost before.source after.source 536870913
+      × IsDone (λ (old new : SourceState) (text : List ℕ). IsTakenFor IsAnswer old new text) IsAnswer before after status
 
   -- ---- a call with command words
 
@@ -86,8 +113,12 @@ module _ {E : Type 0} (told : Failure → E) where
   AreWordsRefused before after status =
       IsUntouched before.source after.source × (IsWritten usage before.sink after.sink status ⊎ IsStarved before.sink after.sink status)
 
-  -- how a call ends whose words make this request; None if the command doesn't take them. The source gives at most one byte more
-  -- than a document may have
+  -- how a call ends whose words make this request; None if the command doesn't take them. At most `most` bytes are read
+  abbrev pub ServesWithin : ℕ → {Asked : Type 0} → (Asked → List ℕ → Output E → Type 0) → Option Asked → Devices → Devices → E → Type 0
+  ServesWithin most IsAnswer None before after status = AreWordsRefused before after status
+  ServesWithin most IsAnswer (Some asked) before after status = IsSourceServed most (IsAnswer asked) before after status
+
+  -- the same for every program, whatever it reads at most
   abbrev pub Serves : {Asked : Type 0} → (Asked → List ℕ → Output E → Type 0) → Option Asked → Devices → Devices → E → Type 0
   Serves IsAnswer None before after status = AreWordsRefused before after status
-  Serves IsAnswer (Some asked) before after status = IsSourceServed 536870913 (IsAnswer asked) before after status
+  Serves IsAnswer (Some asked) before after status = IsInputServed (IsAnswer asked) before after status

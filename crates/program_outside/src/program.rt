@@ -2,7 +2,7 @@ ghost use Rattle.std.specs.Prelude.{◌≡◌, IsErr, IfOk, drop, map, string_by
 ghost use Rattle.std.specs.Process.{exit_status};
 ghost use Rattle.program_outside.specs.ExitCodes.{HasEnded, IsCodeOf, IsExitCode, IsWithoutWords};
 ghost use Rattle.program_outside.specs.Outside.{devices_of};
-ghost use Rattle.program_outside.specs.Serving.{Serves};
+ghost use Rattle.program_outside.specs.Serving.{ServesWithin};
 
 use crate::ends::EndStatus;
 use crate::programs::Program;
@@ -62,7 +62,7 @@ pub fn answer_given<P: Program, S: Source, K: Sink>(
 ) -> ExitCode
     ensures no_words { IsErr given → IsWithoutWords (devices_of S.Source K.Sink source.old sink.old) (devices_of S.Source K.Sink source.new sink.new) result }
     ensures words { IfOk given (λ words. HasEnded P.Status.code_of
-        (Serves P.Status.told P.IsAnswer (P.asked_by (map string_bytes words.items)) (devices_of S.Source K.Sink source.old sink.old) (devices_of S.Source K.Sink source.new sink.new)) result) }
+        (ServesWithin P.Status.told P.most_read P.IsAnswer (P.asked_by (map string_bytes words.items)) (devices_of S.Source K.Sink source.old sink.old) (devices_of S.Source K.Sink source.new sink.new)) result) }
     ensures code { IsExitCode P.Status.code_of result }
 {
     match given {

@@ -1,4 +1,5 @@
-ghost use Rattle.std.specs.Prelude.{◌≡◌, ℕ, List, Option, Some, None, IfOk, IfErr, map, string_bytes};
+ghost use Rattle.std.specs.Prelude.{◌≡◌, ◌≤◌, ℕ, List, Option, Some, None, IfOk, IfErr, map, string_bytes};
+ghost use Rattle.program_outside.specs.Serving.{IsEnough};
 ghost use Rattle.program_outside.specs.declared.words.WordsFault.TheVariants.{Usage};
 
 use crate::WordsFault;
@@ -8,7 +9,8 @@ use std::alloc::Global;
 
 /// What is made of a text, by what is asked for.
 ///
-/// `can_answer` says what `answer` may be called for, and `IsAnswer` which outputs answer what is asked for and a text.
+/// `can_answer` says what `answer` may be called for, and `IsAnswer` which outputs answer what is asked for and a text. Of a text
+/// at most the first `most_read` bytes are read.
 pub trait Answers {
     ghost use Rattle.program_outside.specs.declared.ends.Output.{Output};
 
@@ -19,6 +21,15 @@ pub trait Answers {
     ghost can_answer: { Self.Asked → Type 0 };
 
     ghost IsAnswer: { Self.Asked → List ℕ → Output Self.Status → Type 0 };
+
+    ghost most_read: { ℕ };
+
+    /// How many bytes of a text are read at most: one more than a text may have that isn't refused for its size. They are enough:
+    /// what answers them answers the whole text.
+    fn reads_at_most() -> usize
+        ensures value { result ≡ most_read }
+        ensures within { result ≤ 536870913 }
+        ensures enough { (asked : Self.Asked) → IsEnough (IsAnswer asked) most_read };
 
     /// The answer to a text.
     ///

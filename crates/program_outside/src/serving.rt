@@ -1,13 +1,13 @@
 ghost use Rattle.std.specs.Prelude.{◌≡◌, map, string_bytes};
 ghost use Rattle.program_outside.specs.Outside.{devices_of, sink_of};
-ghost use Rattle.program_outside.specs.Serving.{IsMade, IsSourceServed, IsUnreadFor, IsWritten, Serves, usage};
+ghost use Rattle.program_outside.specs.Serving.{IsInputServed, IsMade, IsSourceServed, IsUnreadFor, IsWritten, Serves, ServesWithin, usage};
 
 use crate::WordsFault;
 use crate::ends::{EndStatus, Failure, Output};
 use crate::programs::{Answers, Program};
 use crate::reading::{ReadError, read_text};
 use crate::writing::write_text;
-use dn_base::{MOST_OF_DOCUMENT, Memory, Sink, Source};
+use dn_base::{Memory, Sink, Source};
 use std::alloc::Global;
 
 /// Writes these bytes, and returns this status, or the one that tells `WriteFault` where the sink failed.
@@ -47,7 +47,7 @@ pub fn end_without_text<E: EndStatus>(error: ReadError) -> E
     }
 }
 
-/// Reads the source to its end, or to one byte more than a trace may have, and writes the answer to what it had.
+/// Reads the source to its end, or as much of it as the program reads at most, and writes the answer to what it had.
 ///
 /// The whole answer is made before anything is written. Then it is written and flushed.
 pub fn serve<P: Answers, S: Source, K: Sink>(
@@ -57,9 +57,10 @@ pub fn serve<P: Answers, S: Source, K: Sink>(
     sink: &mut K,
 ) -> P::Status
     requires { P.can_answer asked.now }
-    ensures { IsSourceServed P.Status.told 536870913 (P.IsAnswer asked.now) (devices_of S.Source K.Sink source.old sink.old) (devices_of S.Source K.Sink source.new sink.new) result }
+    ensures within { IsSourceServed P.Status.told P.most_read (P.IsAnswer asked.now) (devices_of S.Source K.Sink source.old sink.old) (devices_of S.Source K.Sink source.new sink.new) result }
+    ensures serves { IsInputServed P.Status.told (P.IsAnswer asked.now) (devices_of S.Source K.Sink source.old sink.old) (devices_of S.Source K.Sink source.new sink.new) result }
 {
-    match read_text(alloc, MOST_OF_DOCUMENT + 1, source) {
+    match read_text(alloc, P::reads_at_most(), source) {
         Ok(text) => reply(sink, P::answer(alloc, asked, text.as_slice())),
         Err(error) => end_without_text(error),
     }
@@ -74,7 +75,8 @@ pub fn serve_words<P: Program, S: Source, K: Sink>(
     source: &mut S,
     sink: &mut K,
 ) -> P::Status
-    ensures { Serves P.Status.told P.IsAnswer (P.asked_by (map string_bytes words.now)) (devices_of S.Source K.Sink source.old sink.old) (devices_of S.Source K.Sink source.new sink.new) result }
+    ensures within { ServesWithin P.Status.told P.most_read P.IsAnswer (P.asked_by (map string_bytes words.now)) (devices_of S.Source K.Sink source.old sink.old) (devices_of S.Source K.Sink source.new sink.new) result }
+    ensures serves { Serves P.Status.told P.IsAnswer (P.asked_by (map string_bytes words.now)) (devices_of S.Source K.Sink source.old sink.old) (devices_of S.Source K.Sink source.new sink.new) result }
 {
     match P::read_words(alloc, words) {
         Ok(asked) => serve::<P, S, K>(alloc, &asked, source, sink),

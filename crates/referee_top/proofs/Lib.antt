@@ -8,3 +8,4 @@ pub mod SettledLaws
 pub mod SettledLemmas
 pub mod Told
 pub mod Walk
+pub mod ReadLemmas

@@ -17,7 +17,10 @@ mod words;
 
 pub use answering::{Reply, answer};
 pub use batching::answer_to;
-pub use laws::{a_claim_agrees_where_one_thread_does, a_claim_that_is_printed_agrees};
+pub use laws::{
+    a_claim_agrees_where_one_thread_does, a_claim_that_is_printed_agrees,
+    the_bytes_that_are_read_are_enough,
+};
 pub use mode::{RefereeMode, RefereeOptions};
 pub use program::referee_program;
 pub use program_outside::WordsFault;

@@ -1,16 +1,17 @@
 ghost use Rattle.std.specs.Prelude.{map, string_bytes};
 ghost use Rattle.program_outside.specs.Outside.{devices_of};
-ghost use Rattle.program_outside.specs.Serving.{Serves};
+ghost use Rattle.program_outside.specs.Serving.{ServesWithin};
 ghost use Rattle.referee_top.specs.Batch.{IsAnswerTo};
 ghost use Rattle.referee_top.specs.Command.{referee_options_of};
 ghost use Rattle.referee_top.specs.Status.{referee_told};
 
 use crate::answering::Reply;
 use crate::batching::answer_to;
+use crate::laws::the_bytes_that_are_read_are_enough;
 use crate::mode::RefereeOptions;
 use crate::status::RefereeStatus;
 use crate::words::read_words;
-use dn_base::{Memory, Sink, Source};
+use dn_base::{MOST_OF_DOCUMENT, Memory, Sink, Source};
 use program_outside::{Answers, Program, WordsFault, serve_words};
 use std::alloc::Global;
 
@@ -25,6 +26,13 @@ impl Answers for Referee {
     ghost can_answer = { λ _. Unit {0} };
 
     ghost IsAnswer = { IsAnswerTo };
+
+    ghost most_read = { 536870913 };
+
+    fn reads_at_most() -> usize {
+        the_bytes_that_are_read_are_enough();
+        MOST_OF_DOCUMENT + 1
+    }
 
     fn answer(alloc: Global, asked: &RefereeOptions, document: &[u8]) -> Result<Reply, Memory> {
         answer_to(alloc, *asked, document)
@@ -52,7 +60,7 @@ pub fn referee_main<S: Source, K: Sink>(
     source: &mut S,
     sink: &mut K,
 ) -> RefereeStatus
-    ensures serves { Serves referee_told IsAnswerTo (referee_options_of (map string_bytes words.now)) (devices_of S.Source K.Sink source.old sink.old) (devices_of S.Source K.Sink source.new sink.new) result }
+    ensures serves { ServesWithin referee_told 536870913 IsAnswerTo (referee_options_of (map string_bytes words.now)) (devices_of S.Source K.Sink source.old sink.old) (devices_of S.Source K.Sink source.new sink.new) result }
 {
     serve_words::<Referee, S, K>(alloc, words, source, sink)
 }

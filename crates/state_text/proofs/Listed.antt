@@ -17,6 +17,7 @@ use Rattle.registration_protocol.specs.Node.{NodeParts, Setting, need_now, entry
 use Rattle.registration_protocol.specs.OwnEvents.{me, may_instr, may_evict, may_arrive, wanted_by, makes_room}
 use Rattle.machine_rules.specs.State.{State}
 use Rattle.machine_rules.specs.Next.{enabled, when_there}
+use Rattle.machine_rules.specs.Runs.{IsOver}
 use Rattle.machine_rules.specs.Sound.{IsMachine}
 use Rattle.dn_machine.specs.Pick.{handlings}
 use Rattle.dn_machine.proofs.PickLaws.{mail-comes}
@@ -296,3 +297,14 @@ all-listed S (Handle id) placed may = handle-listed S id may
 pub listed-exactly : (S : State) → AreInPlace S → (e : Event) → IsAmong (enabled_events S) e ↔ (enabled S e ≡ true)
 listed-exactly S placed e =
     ((λ among. listed-comes S e (among-has (enabled_events S) e among)), (λ may. has-among (enabled_events S) e (all-listed S e placed may)))
+
+-- where none may come, none is listed
+pub none-listed : (S : State) → AreInPlace S → IsOver S → enabled_events S ≡ []
+none-listed S placed over = by_list (enabled_events S) refl where
+  by_list : (es : List Event) → enabled_events S ≡ es → enabled_events S ≡ []
+  by_list [] is = is
+  by_list (e ∷ es) is =
+      let first : IsAmong (e ∷ es) e = (0, (omega arith, refl)) in
+      let may : enabled S e ≡ true = (listed-exactly S placed e).0 (subst (λ (xs : List Event). IsAmong xs e) (sym is) first) in
+      let never : enabled S e ≡ false = over e in
+      absurd (cc)

@@ -9,4 +9,5 @@ pub mod Parts
 pub mod Reached
 pub mod Reasons
 pub mod Shown
+pub mod Stepping
 pub mod Words

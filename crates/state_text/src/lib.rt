@@ -29,6 +29,7 @@ mod showing;
 mod signed;
 mod signing;
 mod standing;
+mod stepping;
 mod tasks;
 
 pub use answer::StateAnswer;
@@ -41,3 +42,6 @@ pub use readers_answer::answer_for_readers;
 pub use reason::Reason;
 pub use showing::shown_text;
 pub use standing::reason_against;
+pub use stepping::{
+    a_machine_is_ready, a_stepped_machine_is_in_a_run, none_is_listed_where_none_is_enabled,
+};

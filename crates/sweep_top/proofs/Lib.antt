@@ -7,3 +7,4 @@ pub mod SeedRuns
 mod SpreadLemmas
 pub mod Tallies
 pub mod TallyTexts
+pub mod ReadLemmas

@@ -1,6 +1,7 @@
 //! Theorems of what is printed. A theorem is a function without effect; its contract states the theorem.
 ghost use Rattle.std.specs.Prelude.{◌≡◌, ℕ, Bool, List, ◌∷◌};
 ghost use Rattle.dn_machine.specs.declared.record.RunRecord.{RunRecord};
+ghost use Rattle.program_outside.specs.Serving.{IsEnough};
 ghost use Rattle.sweep_top.specs.declared.options.Form.TheVariants.{Csv};
 ghost use Rattle.sweep_top.specs.declared.options.SweepOptions.{SweepOptions};
 ghost use Rattle.sweep_top.specs.declared.status.SweepStatus.TheVariants.{Swept};
@@ -27,4 +28,9 @@ pub fn each_answer_is_counted_once()
 /// The least and the most that the form summary prints of a number are the least and the most of this number in all runs.
 pub fn the_least_and_the_most_are_of_the_runs()
     ensures { (x : ℕ) (xs : List ℕ) → IsSpreadOf (x ∷ xs) (spread_of (x ∷ xs)) }
+{}
+
+/// What answers as many bytes as are read at most answers every text that begins with them.
+pub fn the_bytes_that_are_read_are_enough()
+    ensures { (o : SweepOptions) → IsEnough (IsSweepAnswer o) 1048577 }
 {}

@@ -23,7 +23,7 @@ pub use answering::{Reply, answer};
 pub use hashing::checksum;
 pub use laws::{
     each_answer_is_counted_once, each_row_is_of_the_run_that_denovo_prints,
-    the_least_and_the_most_are_of_the_runs,
+    the_bytes_that_are_read_are_enough, the_least_and_the_most_are_of_the_runs,
 };
 pub use options::{Form, MOST_SEEDS, Seeds, SweepOptions};
 pub use program::sweep_program;

@@ -8,3 +8,4 @@ pub mod Pictures
 pub mod Shown
 pub mod TaskLines
 pub mod DataTold
+pub mod ReadLemmas

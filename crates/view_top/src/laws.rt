@@ -12,8 +12,10 @@ ghost use Rattle.state_text.specs.declared.base.Base.{Base};
 ghost use Rattle.state_text.specs.ForReaders.{words_under};
 ghost use Rattle.state_text.specs.Words.{IsUnderItsRegion};
 ghost use Rattle.page_data.specs.declared.run_data.RunData.{RunData};
+ghost use Rattle.program_outside.specs.Serving.{IsEnough};
+ghost use Rattle.view_top.specs.declared.options.View.{View};
 ghost use Rattle.view_top.specs.declared.options.PageOptions.{PageOptions};
-ghost use Rattle.view_top.specs.Answers.{AreDataFor};
+ghost use Rattle.view_top.specs.Answers.{AreDataFor, IsAnswer};
 ghost use Rattle.view_top.specs.Tasks.{HasLineOfEachTask};
 
 /// The data of a run have a line for each code word of the program, and the statement of this line gives the word.
@@ -36,4 +38,9 @@ pub fn an_answer_has_each_data_word_once()
 /// in the order of phases and cores, and no others. If the run is done, these are all tasks of the program.
 pub fn an_answer_has_a_line_for_each_task()
     ensures { (t : Trace) (r : RunRecord) (P : ProgramParts) (b : Base) → IsRunTold P t r → HasLineOfEachTask P t.text b r }
+{}
+
+/// What answers as many bytes as are read at most answers every text that begins with them.
+pub fn the_bytes_that_are_read_are_enough()
+    ensures { (v : View) → IsEnough (IsAnswer v) 536870913 }
 {}

@@ -22,7 +22,7 @@ mod timings;
 pub use answering::{Output, answer};
 pub use laws::{
     an_answer_has_a_line_for_each_task, an_answer_has_each_data_word_once,
-    each_line_gives_its_code_word,
+    each_line_gives_its_code_word, the_bytes_that_are_read_are_enough,
 };
 pub use options::{
     AccountOptions, AnswerOptions, ChartOptions, PageOptions, PictureOptions, StateOptions, View,

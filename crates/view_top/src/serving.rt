@@ -1,14 +1,15 @@
 ghost use Rattle.std.specs.Prelude.{map, string_bytes};
 ghost use Rattle.program_outside.specs.Outside.{devices_of};
-ghost use Rattle.program_outside.specs.Serving.{Serves};
+ghost use Rattle.program_outside.specs.Serving.{ServesWithin};
 ghost use Rattle.view_top.specs.Answers.{IsAnswer as IsOutputFor};
 ghost use Rattle.view_top.specs.Status.{view_told};
 ghost use Rattle.view_top.specs.Command.{view_of, IsViewInRange};
 
 use crate::answering::{Output, answer};
+use crate::laws::the_bytes_that_are_read_are_enough;
 use crate::status::ViewStatus;
 use crate::{View, read_words};
-use dn_base::{Memory, Sink, Source};
+use dn_base::{MOST_OF_DOCUMENT, Memory, Sink, Source};
 use program_outside::{Answers, Program, WordsFault, serve_words};
 use std::alloc::Global;
 
@@ -23,6 +24,13 @@ impl Answers for Viewer {
     ghost can_answer = { IsViewInRange };
 
     ghost IsAnswer = { IsOutputFor };
+
+    ghost most_read = { 536870913 };
+
+    fn reads_at_most() -> usize {
+        the_bytes_that_are_read_are_enough();
+        MOST_OF_DOCUMENT + 1
+    }
 
     fn answer(alloc: Global, asked: &View, document: &[u8]) -> Result<Output, Memory> {
         answer(alloc, asked, document)
@@ -50,7 +58,7 @@ pub fn view_main<S: Source, K: Sink>(
     source: &mut S,
     sink: &mut K,
 ) -> ViewStatus
-    ensures serves { Serves view_told IsOutputFor (view_of (map string_bytes words.now)) (devices_of S.Source K.Sink source.old sink.old) (devices_of S.Source K.Sink source.new sink.new) result }
+    ensures serves { ServesWithin view_told 536870913 IsOutputFor (view_of (map string_bytes words.now)) (devices_of S.Source K.Sink source.old sink.old) (devices_of S.Source K.Sink source.new sink.new) result }
 {
     serve_words::<Viewer, S, K>(alloc, words, source, sink)
 }

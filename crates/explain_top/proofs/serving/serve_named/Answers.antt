@@ -7,7 +7,7 @@ returns-in-Ok g c =
       text = c.from_vec.result;
       read = rw c.from_vec.ensures c.in-Ok.ensures.text;
       faultless = c.in-Ok.ensures.faultless;
-      served = c.serve-in-Ok.ensures;
+      served = c.serve-in-Ok.ensures.within;
     })
 
 pub returns-in-Err-Failed : goal.returns-in-Err-Failed
