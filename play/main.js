@@ -261,12 +261,17 @@ async function saved(make, name, type) {
 
 async function openFile(file) {
   if (file.size > MOST_FILE) return say(`the file has more than ${MOST_FILE >> 20} MiB`);
-  const bytes = new Uint8Array(await file.arrayBuffer()), text = textOf(bytes), trace = /^denovo-trace 1\nbanks (\d+) sets (\d+) ways (\d+) fuel (\d+)\nsource (\d+)\n/.exec(text);
+  await openDocument(new Uint8Array(await file.arrayBuffer()));
+}
+
+/* Opens a text, or a trace as a walk by hand: as far as its event `at`, or to its end. */
+async function openDocument(bytes, at = Infinity) {
+  const text = textOf(bytes), trace = /^denovo-trace 1\nbanks (\d+) sets (\d+) ways (\d+) fuel (\d+)\nsource (\d+)\n/.exec(text);
   if (!trace) return openText({text});
   const [banks, sets, ways, fuel, length] = trace.slice(1).map(Number), from = bytesOf(trace[0]).length;
   const events = textOf(bytes.subarray(from + length)).split('\n').slice(2).filter(Boolean);
   openText({text: textOf(bytes.subarray(from, from + length)), settings: {banks, sets, ways, fuel}});
-  await startHand(events);
+  await startHand(events.slice(0, at));
 }
 
 async function copyLink(more = {}) {
@@ -327,11 +332,11 @@ const showKeys = () => dialog('Keys', [element('table', {}, KEYS.map(([key, what
 
 function textNamed(path) { return kit.texts.find(({name}) => name === path); }
 
-function chooseText(path) {
+async function chooseText(path) {
   const found = textNamed(path);
   if (!found) return;
   $('texts').value = path;
-  openText({text: found.text});
+  await openDocument(bytesOf(found.text), found.at);
 }
 async function actOf({text, settings: given, tab: shown}) {
   if ($('texts').value !== text) chooseText(text);

@@ -323,7 +323,18 @@ def step_time(reader, events):
     })()""")
 
 
-PARTS = (type_fault_fix_run, every_tab, by_hand, links, exercises, stopped, long_walk, hostile, large)
+def rules(reader, denovo):
+    """The stored runs that need a rule are opened by hand, before the event at which the rule matters."""
+    for rule, at in (("forward-keeps-leaving", 22), ("grant-drops", 34)):
+        name = f"experiments/rules/traces/{rule}.trace"
+        events = pathlib.Path(name).read_text().rpartition("\nevents ")[2].split("\n")[1:-1]
+        reader.run(f"(() => {{ const texts = document.getElementById('texts'); texts.value = {json.dumps(name)}; texts.dispatchEvent(new Event('change')); return 0; }})()")
+        reader.until(f"{rule} stands at event {at}", f"document.querySelectorAll('#panel .walked').length === {at}")
+        reader.check(f"{rule} has its text", f"\n{reader.written}\nevents " in pathlib.Path(name).read_text())
+        reader.check(f"the next event of {rule} may come", reader.run(f"document.querySelector('#panel [data-event={json.dumps(events[at])}]:not(.off)') !== null"), events[at])
+
+
+PARTS = (type_fault_fix_run, every_tab, by_hand, links, exercises, rules, stopped, long_walk, hostile, large)
 
 
 def pictures(reader, folder):
