@@ -22,13 +22,11 @@ use Rattle.message_net.specs.declared.event.Event as event
 use Rattle.message_net.specs.declared.event.Event.{Event}
 use Rattle.message_net.specs.declared.message.Message as message
 use Rattle.message_net.specs.declared.message.Message.{Message}
-use Rattle.message_net.specs.declared.message.Outgoing.{Outgoing}
 use Rattle.registration_protocol.specs.declared.node.NodeWait as wait
 use Rattle.registration_protocol.specs.declared.node.NodeWait.{NodeWait}
 use Rattle.registration_protocol.specs.declared.node.Received.{Received}
-use Rattle.registration_protocol.specs.declared.node.Step.{Step}
 use Rattle.registration_protocol.specs.Node.{NodeParts, Setting, need_by, need_if, need_now, entry_of, is_active, is_ready, waits_for_nothing}
-use Rattle.registration_protocol.specs.OwnEvents.{lets, wanted_by, makes_room, me, load_row, store_row, instr_row, instr_by, instructed, evicts, evicted, victim_for, eviction_of, eviction, arrival, own_event}
+use Rattle.registration_protocol.specs.OwnEvents.{lets, wanted_by, makes_room, me, load_row, store_row, instr_row, instr_by, instructed, evicts, evicted, victim_for, eviction_of, arrival, own_event}
 use Rattle.registration_protocol.specs.Messages.{becomes, granted_to, grant_row, read_fwd_row, node_gets}
 use Rattle.companion_laws.specs.MoreFuel.{with_fuel}
 

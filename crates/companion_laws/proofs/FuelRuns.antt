@@ -26,7 +26,7 @@ use Rattle.registration_protocol.specs.Node.{NodeParts, Setting, is_running}
 use Rattle.machine_rules.specs.State.{State, initial_state}
 use Rattle.machine_rules.specs.Sound.{IsReady, IsWellFormed}
 use Rattle.machine_rules.specs.Next.{next}
-use Rattle.machine_rules.specs.Runs.{after, IsRun, IsCompleteRun, grants_of, all_loads, ending_of_run}
+use Rattle.machine_rules.specs.Runs.{after, IsRun, IsCompleteRun, grants_of, ending_of_run}
 use Rattle.machine_rules.proofs.AnySize.{well-formed}
 use Rattle.machine_rules.proofs.Exclusive.{IsAtWork, in-phase}
 use Rattle.machine_rules.proofs.Invariant.{Invariant}

@@ -1,19 +1,14 @@
 -- In a run that is done, each task has fuel left until it ends.
-use Rattle.std.proofs.Common.{◌≡◌, ℕ, zero, suc, ◌+◌, ◌<◌, ◌≤◌, ◌||◌, Bool, true, false, cond, if◌then◌else◌, List, [], ◌∷◌, ◌++◌, length, map, get_or, position, slice_get, Option, Some, None, refl, sym, ap, ◌∙◌, subst, arith}
-use Rattle.std.specs.Option.{is_some}
+use Rattle.std.proofs.Common.{◌≡◌, ℕ, zero, suc, ◌+◌, ◌||◌, Bool, true, false, if◌then◌else◌, List, [], ◌∷◌, ◌++◌, map, get_or, position, slice_get, Option, Some, None, refl, sym, ap, ◌∙◌, subst, arith}
 use Rattle.std.specs.List.{list_any, list_all}
-use Rattle.std.proofs.lemmas.Bool.{true≢false, false≢true}
+use Rattle.std.proofs.lemmas.Bool.{true≢false}
 use Rattle.std.proofs.lemmas.List.Folds.{list_all_at}
 use Rattle.std.proofs.lemmas.List.Quantifiers.{position-Some}
-use Rattle.std.proofs.lemmas.Option.{none-some, same_Some, slice_get_within, get_or_from_slice_get, slice_get-get_or}
+use Rattle.std.proofs.lemmas.Option.{none-some, same_Some, slice_get_within, get_or_from_slice_get}
 use Rattle.dn_base.specs.declared.ids.Grant.{Grant}
 use Rattle.dn_base.specs.declared.status.Outcome as outcome
 use Rattle.region_table.specs.Program.{ProgramParts}
-use Rattle.region_table.specs.declared.declared.TaskDecl.{TaskDecl}
 use Rattle.region_table.specs.declared.declared.Phase.{Phase}
-use Rattle.region_table.specs.Tasks.{declared, IsDeclaration}
-use Rattle.region_table.proofs.TaskLemmas.{declared-tells}
-use Rattle.rv_core.specs.declared.task.TaskState.{TaskState}
 use Rattle.rv_core.specs.declared.task.End.{End}
 use Rattle.rv_core.specs.declared.task.End as cause
 use Rattle.rv_core.specs.declared.need.Need.{Need}
@@ -29,7 +24,7 @@ use Rattle.flat_machine.specs.Step.{Started, At, wish, wish_unless, step_by, fla
 use Rattle.flat_machine.specs.Phases.{Flat, has_finished, finished_by, next_phase, settled, initial_flat}
 use Rattle.flat_machine.specs.Grants.{grant_by, is_grant, can_take, go_on, resumed, granted_at, granted, grants_from, so_far}
 use Rattle.flat_machine.specs.Ending.{shown_of, task_end, flat_ends_of, flat_end}
-use Rattle.flat_machine.specs.Laws.{at_memory, EndsSegment}
+use Rattle.flat_machine.specs.Laws.{EndsSegment}
 use Rattle.flat_machine.proofs.CauseLemmas.{run-ended}
 use Rattle.flat_machine.proofs.GrantLemmas.{grants-none}
 use Rattle.flat_machine.proofs.PhaseLemmas.{settled-still}
@@ -41,7 +36,7 @@ use Rattle.run_agreement.proofs.Places.{set-other}
 -- ---- on one memory
 
 -- a task that has used its fuel up ends so
-spent-segment : (P : ProgramParts) (fuel : ℕ) (s : At) → s.task.state.end ≡ None → s.task.state.retired ≡ fuel → (segment P fuel s).task.state.end ≡ Some cause.TheVariants.Fuel
+pub spent-segment : (P : ProgramParts) (fuel : ℕ) (s : At) → s.task.state.end ≡ None → s.task.state.retired ≡ fuel → (segment P fuel s).task.state.end ≡ Some cause.TheVariants.Fuel
 spent-segment P fuel s going spent = ap (λ (x : At). x.task.state.end) (sym (segment-step P fuel s (λ e. omega (arith, spent))) ∙ segment-still P fuel (flat_step P fuel s) rest) ∙ ended
   where
     by_need : (x : Need) → EndsByFuel x → x ≡ need.TheVariants.End cause.TheVariants.Fuel
