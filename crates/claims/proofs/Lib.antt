@@ -10,6 +10,7 @@ pub mod LoadRows
 pub mod LoadsMade
 pub mod Parts
 pub mod Places
+pub mod Reached
 pub mod Single
 pub mod Sizes
 pub mod Taken

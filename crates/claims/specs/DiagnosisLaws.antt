@@ -24,8 +24,10 @@ use Rattle.flat_machine.specs.declared.faults.GrantFault as fault
 use Rattle.flat_machine.specs.declared.faults.GrantFault.{GrantFault}
 use Rattle.flat_machine.specs.Accesses.{actions_at}
 use Rattle.flat_machine.specs.Grants.{so_far}
-use Rattle.flat_machine.specs.Phases.{Flat}
-use Rattle.flat_machine.specs.Step.{Started, At, wish}
+use Rattle.flat_machine.specs.Laws.{at_memory}
+use Rattle.flat_machine.specs.Phases.{Flat, initial}
+use Rattle.flat_machine.specs.Step.{Started, wish}
+use Rattle.run_agreement.specs.Interleaving.{Move, interleaved, all_locks_taken}
 use Rattle.claims.specs.declared.diagnosis.WrongLoad.{WrongLoad}
 use Rattle.claims.specs.Diagnosis.{load_by, claimed_load, is_wrong_load, is_take, store_to}
 use Rattle.claims.specs.DiagnosisText.{place_of_code}
@@ -129,11 +131,26 @@ pub record IsSaidUnfinished (P : ProgramParts) (fuel : ℕ) (gs : List Grant) (g
 
 -- ---- the instruction that is named
 
--- the machine stands at s, with the task of the access, and the access is what its next instruction does: the instruction at the
--- address of the access is a load, its address is in the word, and the value is that of the word
-pub record IsLoadAt (P : ProgramParts) (fuel : ℕ) (a : FlatAccess) (s : At) : Type 0 where
-  pub does : actions_at P fuel s ≡ Accesses a ∷ []
-  pub stands : s.task.state.pc ≡ a.pc
+-- some moves of the interleaving machine from its start, each possible in its turn, take these locks in this order and lead to W
+pub record IsReachedBy (P : ProgramParts) (fuel : ℕ) (gs : List Grant) (W : Flat) : Type 0 where
+  pub moves : List Move
+  pub leads : interleaved P fuel (Some (initial P)) moves ≡ Some W
+  pub locks : all_locks_taken P fuel (Some (initial P)) moves ≡ gs
+
+-- moves that take these locks lead to a state in which the access is what the next instruction of a task does. The task is that of
+-- the access: on its core, in its phase, and after as many loads. The instruction stands at the address of the access and is a load,
+-- its address is in the word, and the value is that of the word in the state's memory
+pub record IsLoadAt (P : ProgramParts) (fuel : ℕ) (gs : List Grant) (a : FlatAccess) : Type 0 where
+  pub state : Flat
+  pub reached : IsReachedBy P fuel gs state
+  pub place : ℕ
+  pub task : Started
+  pub found : slice_get state.tasks place ≡ Some task
+  pub does : actions_at P fuel (at_memory task state.memory) ≡ Accesses a ∷ []
+  pub phase : task.phase ≡ a.phase
+  pub core : task.decl.core ≡ a.core
+  pub number : length task.loads ≡ a.number
+  pub stands : task.state.pc ≡ a.pc
   pub code : ℕ
   pub there : code_at P.code a.pc ≡ Some code
   pub width : Width
@@ -141,8 +158,8 @@ pub record IsLoadAt (P : ProgramParts) (fuel : ℕ) (a : FlatAccess) (s : At) : 
   pub base : ℕ
   pub offset : ℤ
   pub loads : decoded code ≡ Some (instr.TheVariants.Load width rd base offset)
-  pub of : data_at (length P.memory) (address_of s.task.state base offset) ≡ Some a.word.0
-  pub reads : slice_index s.memory a.word.0 ≡ a.value
+  pub of : data_at (length P.memory) (address_of task.state base offset) ≡ Some a.word.0
+  pub reads : slice_index state.memory a.word.0 ≡ a.value
 
 -- the place of the instruction at an address: the line of the text that gives it, by the definition of the language
 pub record HasLine (text : List ℕ) (P : ProgramParts) (pc : ℕ) : Type 0 where

@@ -1,5 +1,5 @@
 //! Theorems of diagnoses. A theorem is a function without effect; its contract states the theorem.
-ghost use Rattle.std.specs.Prelude.{◌≡◌, ◌<◌, ◌≤◌, ◌↔◌, ℕ, List, Option, Some, None, Ok, length};
+ghost use Rattle.std.specs.Prelude.{◌≡◌, ◌<◌, ◌≤◌, ◌↔◌, ℕ, List, ◌∷◌, ◌++◌, Option, Some, None, Ok, length, take, count_by};
 ghost use Rattle.std.specs.List.{All, IsAmong};
 ghost use Rattle.dn_base.specs.declared.ids.Grant.{Grant as GrantOf};
 ghost use Rattle.dn_base.specs.declared.ids.LoadSeen.{LoadSeen as LoadOf};
@@ -12,14 +12,13 @@ ghost use Rattle.flat_machine.specs.declared.accesses.FlatAction.TheVariants.{Ac
 ghost use Rattle.flat_machine.specs.declared.ending.TaskLoads.{TaskLoads as LoadsOf};
 ghost use Rattle.flat_machine.specs.declared.faults.GrantFault.{GrantFault as FaultOf};
 ghost use Rattle.flat_machine.specs.Accesses.{actions_so_far};
-ghost use Rattle.flat_machine.specs.Step.{At};
 ghost use Rattle.claims.specs.declared.claim.Claim.{Claim as ClaimOf};
 ghost use Rattle.claims.specs.declared.diagnosis.Diagnosis.TheVariants as says;
 ghost use Rattle.claims.specs.declared.diagnosis.WrongLoad.{WrongLoad as WrongLoadOf};
 ghost use Rattle.claims.specs.declared.verdict.LoadPlace.{LoadPlace as PlaceOf};
 ghost use Rattle.claims.specs.declared.verdict.Verdict.TheVariants as differs;
 ghost use Rattle.claims.specs.Judge.{IsVerdict};
-ghost use Rattle.claims.specs.Diagnosis.{earliest_wrong, last_store, loads_claimed, IsDiagnosis};
+ghost use Rattle.claims.specs.Diagnosis.{earliest_wrong, is_take, last_store, loads_claimed, IsDiagnosis};
 ghost use Rattle.claims.specs.DiagnosisLaws.{IsEarliest, IsLastStore, StoresElsewhere, IsClaimedAsMade, IsFirstToDiffer, IsIllegalAt, IsLegalNotMaximal, IsReasonAt, IsSaidUnfinished, IsLoadAt, HasLine};
 
 /// The earliest wrong load is a load of the thread that is claimed wrongly, and each load that the thread makes before it is
@@ -64,11 +63,15 @@ pub fn the_reason_against_a_grant_is_true()
         → IsLegalNotMaximal P c.question.fuel c.grants → IsSaidUnfinished P c.question.fuel c.grants fault }
 {}
 
-/// The instruction at the address of a load of the thread is a load of that word, which reads the load's value (`loads`). In a
-/// text of the program its place is the line that gives it (`line`).
+/// A load of the thread is made by the interleaving machine too: moves from its start that take the grants which the thread took
+/// before the load, in their order, lead to a state in which the next instruction of the load's task is a load of that word, at the
+/// load's address, and reads the load's value (`loads`). So is the load that a diagnosis names, after as many grants as it says
+/// (`named`). In a text of the program the place of the instruction is the line that gives it (`line`).
 pub fn a_load_is_made_by_the_load_of_its_line()
-    ensures loads { (P : ProgramParts) (fuel : ℕ) (gs : List GrantOf) (a : AccessOf) → IsAmong (actions_so_far P fuel gs) (DoesAccess a) → a.kind ≡ kind.Load
-        → (s : At) × IsLoadAt P fuel a s }
+    ensures loads { (P : ProgramParts) (fuel : ℕ) (gs : List GrantOf) (before behind : List ActionOf) (a : AccessOf) → actions_so_far P fuel gs ≡ before ++ DoesAccess a ∷ behind → a.kind ≡ kind.Load
+        → IsLoadAt P fuel (take (count_by is_take before) gs) a }
+    ensures named { (P : ProgramParts) (c : ClaimOf) (place : PlaceOf) (right : Option LoadOf) (w : WrongLoadOf) → IsDiagnosis P c (differs.Load place right) (says.Load (Some w))
+        → IsLoadAt P c.question.fuel (take w.grants c.grants) w.load }
     ensures line { (text : List ℕ) (P : ProgramParts) (fuel : ℕ) (gs : List GrantOf) (a : AccessOf) → source text ≡ Ok P → IsAmong (actions_so_far P fuel gs) (DoesAccess a)
         → a.kind ≡ kind.Load → HasLine text P a.pc }
 {}

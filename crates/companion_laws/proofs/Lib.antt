@@ -2,6 +2,10 @@ pub mod Agreeing
 mod Calls
 mod CommonRuns
 mod Ends
+mod FuelNodes
+mod FuelRuns
+mod FuelSpent
+mod FuelStates
 mod HandedBack
 mod Holders
 mod Modes
