@@ -1,7 +1,7 @@
 #!/usr/bin/env python3
 """Checks the programs and their launchers as a user meets them, since no contract reaches a `main`: run it after the gate, as
 .ci/run does, `tools/check_programs.py`. With `--quick` it takes whatever the launchers run, also builds without proof. With `--times`
-it says how long each part takes.
+it says how long each part takes, and with `--long` it takes 300 made texts for runs in time order.
 
 It looks that the command words are handed on, that each exit code from 0 to 7 comes out, and 9 for words that aren't UTF-8, that a run goes
 by a pipe into its picture, its account, its states, its answer and its page, that all are those of tools/reference.py, that explained answers are those
@@ -63,6 +63,7 @@ PARTS = [functools.partial(shown.states_are_those_of_the_reference, example, wor
     settled.cases_have_their_outcomes,
     timed.made_texts_in_time_order_are_those_of_the_reference,
     timed.runs_in_time_order_are_those_of_the_reference,
+    timed.drawn_runs_with_a_latency_are_timed_as_by_the_reference,
     swept.outputs_are_those_of_the_reference,
     swept.rows_are_of_what_denovo_prints,
     swept.forms_agree,

@@ -10,12 +10,13 @@ use std::str;
 /// The greatest number of events of which all chains are tried: they have 65,536 subsets.
 const MOST_TIMED_EVENTS: usize = 16;
 
-/// An event that came: its actor, its ticks, and which of the run's events handle a message that was in flight before it and
-/// after it.
+/// An event that came: its actor, its ticks, for how many ticks its message was under way, and which of the run's events handle a
+/// message that was in flight before it and after it.
 #[derive(Drop)]
 struct Came {
     actor: Actor,
     ticks: u64,
+    delay: u64,
     before: Vec<bool>,
     behind: Vec<bool>,
 }
@@ -27,12 +28,16 @@ impl Came {
     }
 }
 
-/// The ticks that the events of each place take: a core's own, those that a bank handles, and all others.
+/// The ticks that the events of each place take: a core's own, those that a bank handles, and all others. And the ticks of a message for
+/// each hop: one hop, or those of a mesh in which this many banks are spread.
 #[derive(Clone, Copy)]
 pub struct PlaceTicks {
     pub core: u32,
     pub bank: u32,
     pub mail: u32,
+    pub hop: u32,
+    pub is_mesh: bool,
+    pub banks: u32,
 }
 
 impl PlaceTicks {
@@ -46,6 +51,38 @@ impl PlaceTicks {
             | EventKind::Acquire
             | EventKind::Release => self.bank,
             _ => self.mail,
+        }
+    }
+
+    /// The tile of an actor on the mesh of 4 × 4 tiles.
+    fn tile(self, actor: Actor) -> u64 {
+        match actor {
+            Actor::Core(core) => u64::from(core.0),
+            Actor::Bank(bank) => (16 * u64::from(bank.0))
+                .checked_div(u64::from(self.banks))
+                .unwrap_or(0),
+            Actor::Keeper => 5,
+        }
+    }
+
+    /// For how many ticks a message is under way.
+    fn delay(self, from: Actor, to: Actor) -> u64 {
+        let (here, there) = (self.tile(from), self.tile(to));
+        let columns = (here % 4).abs_diff(there % 4);
+        let rows = (here / 4).abs_diff(there / 4);
+        let hops = if self.is_mesh {
+            columns.saturating_add(rows)
+        } else {
+            1
+        };
+        u64::from(self.hop).saturating_mul(hops)
+    }
+
+    /// For how many ticks the message that an event handles is under way; 0 if it handles none.
+    fn handled_delay(self, event: Event, to: Actor) -> u64 {
+        match event {
+            Event::Handle(id) => self.delay(id.sender, to),
+            _ => 0,
         }
     }
 }
@@ -80,6 +117,7 @@ fn come<M: EventMachine>(
     Ok(Came {
         actor,
         ticks: u64::from(ticks.of(stepped.kind)),
+        delay: ticks.handled_delay(event, actor),
         before,
         behind: in_flight(alloc, machine, events)?,
     })
@@ -118,6 +156,25 @@ fn depends(all: &[Came], earlier: usize, number: usize) -> bool {
     is_own || first.has_sent(number)
 }
 
+/// What a step takes from an earlier event to one with this number: its message's delay, if the earlier one sent that.
+fn step(all: &[Came], earlier: usize, number: usize) -> u64 {
+    match (all.get(earlier), all.get(number)) {
+        (Some(first), Some(event)) if first.has_sent(number) => event.delay,
+        _ => 0,
+    }
+}
+
+/// What an event with this number adds to a chain, after another event or as its first; None where it doesn't depend on that event.
+fn added(all: &[Came], before: Option<usize>, number: usize, event: &Came) -> Option<u64> {
+    match before {
+        None => Some(event.ticks),
+        Some(before) if depends(all, before, number) => {
+            Some(event.ticks.saturating_add(step(all, before, number)))
+        }
+        Some(_) => None,
+    }
+}
+
 /// What a set of the events takes, where each of them depends on the one before it in the set; None where one doesn't. The set
 /// has the event with a number where it has that bit.
 fn cost(all: &[Came], set: u32) -> Option<u64> {
@@ -126,14 +183,7 @@ fn cost(all: &[Came], set: u32) -> Option<u64> {
     let mut before = None;
     for (number, event) in all.iter().enumerate() {
         if left % 2 == 1 {
-            let follows = match before {
-                Some(before) => depends(all, before, number),
-                None => true,
-            };
-            if !follows {
-                return None;
-            }
-            cost = cost.saturating_add(event.ticks);
+            cost = cost.saturating_add(added(all, before, number, event)?);
             before = Some(number);
         }
         left /= 2;

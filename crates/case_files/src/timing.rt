@@ -6,14 +6,18 @@ use crate::{Case, PlaceTicks, Trouble, is_slowest};
 use dn_top::{Mode, Options};
 use effect_checker::Checked;
 use message_net::Event;
+use run_timing::Net;
 use std::alloc::Global;
 
-/// The ticks of each place that options ask for.
+/// The ticks of each place and of messages that options ask for.
 fn ticks_of(options: &Options) -> PlaceTicks {
     PlaceTicks {
         core: options.tick_core,
         bank: options.tick_bank,
         mail: options.tick_mail,
+        hop: options.latency,
+        is_mesh: matches!(options.net, Net::Mesh),
+        banks: options.banks,
     }
 }
 

@@ -90,7 +90,7 @@ module _ (once : IsRefusedOnce) where
         let at' = is-located text has.program has.is in
         let sum = sum-printed text l at' o.fuel most (shape_for has.program o) did.run did.is.run in
         let times = did.timed.times in
-        let timing = timing-printed l (ticks_for o) did.timed.limits (initial_state times.setting) did.run.events did.is.run.machine.few.most did.timed.timing times.longest in
+        let timing = timing-printed l (ticks_for o) (initial_state times.setting) did.run.events did.is.run.machine.few.most did.timed.timing times.longest in
         printed-taken text has.program has.is has.checked (summed_up did.run ++ timing_of did.timed.timing) out.bytes (out-bytes out _ did.timed.answer)
         (lines-append l (summed_up did.run) (timing_of did.timed.timing) sum timing) e h
 

@@ -10,7 +10,7 @@ use Rattle.program_outside.specs.Numbers.{if_within, number_in_text}
 use Rattle.program_outside.specs.Words.{faults_in, number_in, switch_in, values_in, where_taken}
 use Rattle.dn_top.specs.declared.options.Order.{Order}
 use Rattle.dn_top.specs.declared.options.Order.TheVariants.{Seed, Time}
-use Rattle.dn_top.specs.Command.{command, mode_in, order_by, order_in, order_named, options_from, options_of, OptionsInRange}
+use Rattle.dn_top.specs.Command.{command, mode_in, net_in, order_by, order_in, order_named, options_from, options_of, OptionsInRange}
 
 within-range : (low high number n : ℕ) → if_within low high number ≡ Some n → IsInRange low high n
 within-range low high number n e =
@@ -47,6 +47,8 @@ from-range rows o e =
     option_and_then_some _ (number_in rows (codes "tick-bank") 1 1000000) o e9 (λ tick_bank h10 e10.
     option_and_then_some _ (number_in rows (codes "tick-mail") 1 1000000) o e10 (λ tick_mail h11 e11.
     option_and_then_some _ (order_in workers rows) o e11 (λ order h12 e12.
+    option_and_then_some _ (number_in rows (codes "latency") 0 1000000) o e12 (λ latency h13 e13.
+    option_and_then_some _ (net_in rows) o e13 (λ net _ e14.
     let asked : Options =
     record {
       mode = mode;
@@ -62,8 +64,10 @@ from-range rows o e =
       tick_core = tick_core;
       tick_bank = tick_bank;
       tick_mail = tick_mail;
+      latency = latency;
+      net = net;
     } in
-    subst OptionsInRange (same_Some asked o e12)
+    subst OptionsInRange (same_Some asked o e14)
     (record {
       workers = number-range rows (codes "workers") 1 16 workers h3;
       banks = number-range rows (codes "banks") 1 16 banks h4;
@@ -74,8 +78,9 @@ from-range rows o e =
       tick_core = number-range rows (codes "tick-core") 1 1000000 tick_core h9;
       tick_bank = number-range rows (codes "tick-bank") 1 1000000 tick_bank h10;
       tick_mail = number-range rows (codes "tick-mail") 1 1000000 tick_mail h11;
+      latency = number-range rows (codes "latency") 0 1000000 latency h13;
       alone = λ is. order-alone workers rows order h12 is;
-    }))))))))))))))
+    }))))))))))))))))
 
 pub words-range : (words : List Text) (o : Options) → options_of words ≡ Some o → OptionsInRange o
 unfolding options_of

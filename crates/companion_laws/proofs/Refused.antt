@@ -16,6 +16,7 @@ use Rattle.run_report.specs.declared.refusal.Refusal as refusal
 use Rattle.run_report.specs.Refusal.{check_text, refusal_of}
 use Rattle.run_report.specs.Summary.{checked_of}
 use Rattle.run_report.specs.Texts.{HasProgram, IsNoProgram, IsInConflict, IsUnfit}
+use Rattle.run_timing.specs.declared.network.Net.TheVariants.{Uniform}
 use Rattle.dn_top.specs.declared.options.Mode as mode
 use Rattle.dn_top.specs.declared.options.Order as order
 use Rattle.dn_top.specs.declared.options.Options.{Options}
@@ -56,6 +57,8 @@ checking =
       tick_core = 1;
       tick_bank = 1;
       tick_mail = 1;
+      latency = 0;
+      net = Uniform;
     }
 
 pub is-taken : (e : Explained) (bytes : List ℕ) → e ≡ Text bytes → IsTaken e

@@ -1,21 +1,20 @@
--- What is printed of a run's timing is lines of answers: a chain has at most one link for each event, and each takes at most 1,000,000 ticks.
-use Rattle.std.proofs.Common.{◌≡◌, ℕ, ◌+◌, ◌*◌, ◌<◌, ◌≤◌, List, [], ◌∷◌, ◌++◌, map, flat_map, length, sum_by, get_or, Option, Some, None, refl, sym, subst, ◌∙◌, arith}
+-- What is printed of a run's timing is lines of answers: a chain has at most one link for each event.
+use Rattle.std.proofs.Common.{◌≡◌, ℕ, ◌+◌, ◌==◌, ◌<◌, ◌≤◌, Bool, true, false, cond, List, [], ◌∷◌, ◌++◌, map, flat_map, length, get_or, Option, Some, None, refl, sym, subst, ◌∙◌, arith}
 use Rattle.std.proofs.lemmas.List.{append-nil, length-map}
 use Rattle.std.proofs.lemmas.List.Elements.{All-nil, All-cons, All-map}
-use Rattle.std.proofs.lemmas.List.Sums.{sum_by-cons}
 use Rattle.std.proofs.lemmas.Option.{none-some, same_Some, slice_get-get_or}
 use Rattle.message_net.specs.declared.event.Event.{Event}
-use Rattle.message_net.specs.declared.event.EventKind.{EventKind}
 use Rattle.machine_rules.specs.State.{State}
 use Rattle.run_report.specs.Summary.{count_line}
 use Rattle.run_timing.specs.declared.ticks.Ticks.{Ticks}
 use Rattle.run_timing.specs.declared.timing.Link.{Link}
 use Rattle.run_timing.specs.declared.timing.Timing.{Timing}
-use Rattle.run_timing.specs.Chains.{IsChainBehind, IsChain, cost, last_from, last_of}
-use Rattle.run_timing.specs.Depends.{kind_at, DependsOn}
+use Rattle.run_timing.specs.Chains.{IsChainBehind, IsChain, steps_cost, cost, last_from, last_of}
+use Rattle.run_timing.specs.Depends.{DependsOn}
 use Rattle.run_timing.specs.Longest.{numbers_in, IsLinkOf, IsLongest}
-use Rattle.run_timing.specs.Text.{time_line, chain_line, link_line as timed_line, timing_of}
-use Rattle.run_timing.specs.Ticks.{AreWithinLimits, ticks_with, ticks_at}
+use Rattle.run_timing.specs.Steps.{step_delay}
+use Rattle.run_timing.specs.Text.{time_line, chain_line, network_line, link_line as timed_line, timing_of}
+use Rattle.run_timing.specs.Ticks.{ticks_at}
 use Rattle.run_timing.proofs.IsLongest.{depends-within}
 use Rattle.text_places.specs.declared.places.Located.{Located}
 use Rattle.explained_answer.specs.declared.line.AnswerLine as line
@@ -28,18 +27,8 @@ use Rattle.companion_laws.proofs.Runs.{AreLines, lines-append}
 
 -- ---- chains
 
--- each number that depends on another is greater, and below n; and each takes at most 1,000,000 ticks
-module _ (Depends : ℕ → ℕ → Type 0) (n : ℕ) (later : (i j : ℕ) → Depends i j → (i < j) × (j < n)) (t : ℕ → ℕ) (low : (i : ℕ) → t i ≤ 1000000) where
-  behind-cost : (i : ℕ) (js : List ℕ) → i < n → IsChainBehind Depends i js → sum_by t js + (i + 1) * 1000000 ≤ n * 1000000
-  behind-cost i [] within h = omega (arith, within)
-  behind-cost i (j ∷ js) within h =
-      let step = later i j h.0 in
-      omega (arith, step.0, step.1, low j, behind-cost j js step.1 h.1, sum_by-cons t j js)
-
-  chain-cost : (is : List ℕ) → IsChain Depends n is → cost t is ≤ n * 1000000
-  chain-cost [] h = omega arith
-  chain-cost (i ∷ is) h = omega (arith, low i, behind-cost i is h.0 h.1, sum_by-cons t i is)
-
+-- each number that depends on another is greater, and below n
+module _ (Depends : ℕ → ℕ → Type 0) (n : ℕ) (later : (i j : ℕ) → Depends i j → (i < j) × (j < n)) where
   behind-length : (i : ℕ) (js : List ℕ) → i < n → IsChainBehind Depends i js → length js + i + 1 ≤ n
   behind-length i [] within h = omega (arith, within)
   behind-length i (j ∷ js) within h = let step = later i j h.0 in omega (arith, step.0, behind-length j js step.1 h.1)
@@ -55,12 +44,6 @@ module _ (Depends : ℕ → ℕ → Type 0) (n : ℕ) (later : (i j : ℕ) → D
   chain-last : (is : List ℕ) (last : ℕ) → IsChain Depends n is → last_of is ≡ Some last → last < n
   chain-last [] last h e = absurd (none-some last e)
   chain-last (i ∷ is) last h e = subst (λ (x : ℕ). x < n) (same_Some (last_from i is) last e) (last-within i is h.0 h.1)
-
-few-ticks : (ticks : Ticks) → AreWithinLimits ticks → (S : State) (events : List Event) (i : ℕ) → ticks_at ticks S events i ≤ 1000000
-few-ticks ticks limits S events i = by_kind (kind_at S events i) where
-  by_kind : (o : Option EventKind) → ticks_with ticks o ≤ 1000000
-  by_kind None = omega arith
-  by_kind (Some kind) = (limits kind).1
 
 -- ---- lines
 
@@ -83,39 +66,58 @@ same-time : (total : ℕ) → time_line total ≡ answer_line (line.TheVariants.
 unfolding time_line count_line
 same-time total = refl
 
+same-network : (ticks : ℕ) → network_line (Some ticks) ≡ answer_line (line.TheVariants.Network ticks)
+unfolding network_line count_line
+same-network ticks = refl
+
+no-network : network_line None ≡ []
+unfolding network_line
+no-network = refl
+
 same-chain : (links : ℕ) → chain_line links ≡ answer_line (line.TheVariants.Count count.TheVariants.Links links)
 unfolding chain_line count_line
 same-chain links = refl
 
-timing-parts : (timing : Timing) → timing_of timing ≡ time_line timing.total ++ chain_line (length timing.links.items) ++ flat_map timed_line timing.links.items
+timing-parts : (timing : Timing) → timing_of timing ≡ time_line timing.total ++ chain_line (length timing.links.items) ++ network_line timing.network ++ flat_map timed_line timing.links.items
 unfolding timing_of
 timing-parts timing = refl
 
-module _ (l : Located) (ticks : Ticks) (limits : AreWithinLimits ticks) (S : State) (events : List Event) (few : length events ≤ 25169664) (timing : Timing) (longest : IsLongest ticks S events timing) where
+module _ (l : Located) (ticks : Ticks) (S : State) (events : List Event) (few : length events ≤ 25169664) (timing : Timing) (longest : IsLongest ticks S events timing) where
   abbrev links : List Link
   links = timing.links.items
 
   abbrev n : ℕ
   n = length events
 
-  most-ticks : (chain : List ℕ) → IsChain (DependsOn S events) n chain → cost (ticks_at ticks S events) chain ≤ 25169664000000
-  most-ticks chain is = omega (arith, few, chain-cost (DependsOn S events) n (depends-within S events) (ticks_at ticks S events) (few-ticks ticks limits S events) chain is)
+  -- no chain takes longer than the longest
+  most-ticks : (chain : List ℕ) → IsChain (DependsOn S events) n chain → cost (ticks_at ticks S events) (step_delay ticks S events) chain ≤ 176187648000000
+  most-ticks chain is = omega (arith, longest.longest chain is, longest.bound)
 
   time-printed : AreLines l (time_line timing.total)
   time-printed =
-      let total : timing.total ≤ 25169664000000 = omega (arith, longest.takes, most-ticks (numbers_in links) longest.chain) in
-      one-line l (line.TheVariants.Time timing.total) (record { fits = record { low = omega arith; high = total }; of = refl }) (time_line timing.total) (same-time timing.total)
+      one-line l (line.TheVariants.Time timing.total) (record { fits = record { low = omega arith; high = longest.bound }; of = refl }) (time_line timing.total) (same-time timing.total)
 
   chain-printed : AreLines l (chain_line (length links))
   chain-printed =
-      let many = chain-length (DependsOn S events) n (depends-within S events) (ticks_at ticks S events) (few-ticks ticks limits S events) (numbers_in links) longest.chain in
+      let many = chain-length (DependsOn S events) n (depends-within S events) (numbers_in links) longest.chain in
       let size : length (numbers_in links) ≡ length links = length-map links (λ (k : Link). k.event) in
       one-line l (line.TheVariants.Count count.TheVariants.Links (length links)) (record { fits = number (length links) (omega (arith, few, many, size)); of = refl })
       (chain_line (length links)) (same-chain (length links))
 
+  -- the delays are a part of the total
+  network-lines : (latency : Bool) → AreLines l (network_line (cond latency None (Some (steps_cost (step_delay ticks S events) (numbers_in links)))))
+  network-lines true = record { lines = []; are = All-nil (IsLineOf l); is = no-network }
+  network-lines false =
+      let delays = steps_cost (step_delay ticks S events) (numbers_in links) in
+      let high : delays ≤ 176187648000000 = omega (arith, longest.takes, longest.bound) in
+      one-line l (line.TheVariants.Network delays) (record { fits = record { low = omega arith; high = high }; of = refl }) (network_line (Some delays)) (same-network delays)
+
+  network-printed : AreLines l (network_line timing.network)
+  network-printed = subst (λ (o : Option ℕ). AreLines l (network_line o)) (sym longest.network) (network-lines (ticks.network.latency == 0))
+
   link-of : (k : Link) → IsLinkOf ticks S events k → IsLineOf l (link_shown k)
   link-of k is =
-      let event = chain-last (DependsOn S events) n (depends-within S events) (ticks_at ticks S events) (few-ticks ticks limits S events) is.finish.chain k.event is.finish.is_chain is.finish.ends in
+      let event = chain-last (DependsOn S events) n (depends-within S events) is.finish.chain k.event is.finish.is_chain is.finish.ends in
       let finish = most-ticks is.finish.chain is.finish.is_chain in
       record {
         fits =
@@ -137,5 +139,6 @@ module _ (l : Located) (ticks : Ticks) (limits : AreWithinLimits ticks) (S : Sta
   pub timing-printed : AreLines l (timing_of timing)
   timing-printed =
       subst (AreLines l) (sym (timing-parts timing))
-      (lines-append l (time_line timing.total ++ chain_line (length links)) (flat_map timed_line links)
-      (lines-append l (time_line timing.total) (chain_line (length links)) time-printed chain-printed) links-printed)
+      (lines-append l (time_line timing.total ++ chain_line (length links) ++ network_line timing.network) (flat_map timed_line links)
+      (lines-append l (time_line timing.total ++ chain_line (length links)) (network_line timing.network)
+      (lines-append l (time_line timing.total) (chain_line (length links)) time-printed chain-printed) network-printed) links-printed)

@@ -1,5 +1,5 @@
 -- A program and options have one run, and so one output.
-use Rattle.std.proofs.Common.{◌≡◌, ℕ, List, ◌++◌, length, flat_map, refl, sym, ap, subst, ◌∙◌}
+use Rattle.std.proofs.Common.{◌≡◌, ℕ, List, ◌++◌, length, flat_map, Option, refl, sym, ap, subst, ◌∙◌}
 use Rattle.region_table.specs.Program.{ProgramParts}
 use Rattle.message_net.specs.declared.event.Event.{Event}
 use Rattle.grant_log.specs.Counts.{AreCounts}
@@ -14,7 +14,7 @@ use Rattle.dn_machine.proofs.OneSetting.{same-setting}
 use Rattle.dn_machine.proofs.ScheduleLaws.{picked-one}
 use Rattle.run_timing.specs.declared.timing.Link.{Link}
 use Rattle.run_timing.specs.declared.timing.Timing.{Timing}
-use Rattle.run_timing.specs.Text.{time_line, chain_line, link_line, timing_of}
+use Rattle.run_timing.specs.Text.{time_line, chain_line, network_line, link_line, timing_of}
 use Rattle.run_timing.proofs.OneTiming.{one-timing}
 use Rattle.machine_rules.specs.Sound.{IsReady}
 use Rattle.machine_rules.proofs.OpenedFacts.{opened-setting}
@@ -26,7 +26,7 @@ use Rattle.dn_top.specs.declared.options.Order as order
 use Rattle.dn_top.specs.declared.options.Options.{Options}
 use Rattle.dn_top.specs.declared.output.Output.{Output}
 use Rattle.checked_runs.specs.Runs.{summed_up}
-use Rattle.dn_top.specs.Runs.{shape_for, ticks_for, no_latency, ArePickedBy, IsPickedRun, IsRunFor, IsPrintedRun, IsTimedFor, IsTimedRun, output_of_run}
+use Rattle.dn_top.specs.Runs.{shape_for, ticks_for, network_for, ArePickedBy, IsPickedRun, IsRunFor, IsPrintedRun, IsTimedFor, IsTimedRun, output_of_run}
 
 -- ---- the run
 
@@ -48,7 +48,7 @@ same-events : (k : Order) (o : Options) (C : Setting) (r s : RunRecord) → AreP
 same-events order.TheVariants.Seed o C r s is also run other = picked-one (initial_state C) (generator_of o.seed) r.events s.events is also
 same-events order.TheVariants.Time o C r s is also run other =
     let ready : IsReady C = subst IsReady (opened-setting C) is.0 in
-    one-order (ticks_for o) no_latency (initial_state C) clock_at_start r.events s.events (reached-first C ready) is.1 run.complete.over also.1 other.complete.over
+    one-order (ticks_for o) (network_for o) (initial_state C) clock_at_start r.events s.events (reached-first C ready) is.1 run.complete.over also.1 other.complete.over
 
 -- so a state and options have one record
 same-record : (o : Options) (C : Setting) (r s : RunRecord) → length r.counts.kinds ≡ 17 → length s.counts.kinds ≡ 17 → IsPickedRun o (initial_state C) r → IsPickedRun o (initial_state C) s → r ≡ s
@@ -72,11 +72,12 @@ one-output P o print out other one is also =
     is.answer ∙ ap (λ (r : RunRecord). output_of_run (print r) r) (one-run P o is.run also.run one is.is also.is) ∙ sym also.answer
 
 -- so is its timing
-timed-text : (t u : Timing) → t.total ≡ u.total → t.links.items ≡ u.links.items → timing_of t ≡ timing_of u
+timed-text : (t u : Timing) → t.total ≡ u.total → t.network ≡ u.network → t.links.items ≡ u.links.items → timing_of t ≡ timing_of u
 unfolding timing_of
-timed-text t u total links =
-    ap (λ (n : ℕ). time_line n ++ chain_line (length t.links.items) ++ flat_map link_line t.links.items) total
-    ∙ ap (λ (ls : List Link). time_line u.total ++ chain_line (length ls) ++ flat_map link_line ls) links
+timed-text t u total network links =
+    ap (λ (n : ℕ). time_line n ++ chain_line (length t.links.items) ++ network_line t.network ++ flat_map link_line t.links.items) total
+    ∙ ap (λ (n : Option ℕ). time_line u.total ++ chain_line (length t.links.items) ++ network_line n ++ flat_map link_line t.links.items) network
+    ∙ ap (λ (ls : List Link). time_line u.total ++ chain_line (length ls) ++ network_line u.network ++ flat_map link_line ls) links
 
 pub timed-one : (P : ProgramParts) (o : Options) (out other : Output) → o.workers ≡ 1 → IsTimedRun P o out → IsTimedRun P o other → out ≡ other
 timed-one P o out other one is also =
@@ -86,5 +87,5 @@ timed-one P o out other one is also =
     one-timing P (shape_for P o) o.fuel also.run.events (ticks_for o) timed.timing also.timed.timing timed.limits timed.times also.timed.times
     in
     timed.answer
-    ∙ ap (λ (text : List ℕ). output_of_run (summed_up also.run ++ text) also.run) (timed-text timed.timing also.timed.timing timing.0 timing.1)
+    ∙ ap (λ (text : List ℕ). output_of_run (summed_up also.run ++ text) also.run) (timed-text timed.timing also.timed.timing timing.0 timing.1 timing.2)
     ∙ sym also.timed.answer

@@ -3,6 +3,8 @@ use Rattle.std.specs.Prelude.{◌≡◌, ℕ, ◌==◌, Bool, List, codes, bytes
 use Rattle.std.specs.Int.{IsInRange}
 use Rattle.clap.specs.Walk.{Row, Text, first_of}
 use Rattle.clap.specs.Simple.{App, new_app, with_rule}
+use Rattle.run_timing.specs.declared.network.Net.{Net}
+use Rattle.run_timing.specs.declared.network.Net as net
 use Rattle.dn_top.specs.declared.options.Mode.{Mode}
 use Rattle.dn_top.specs.declared.options.Mode as mode
 use Rattle.dn_top.specs.declared.options.Order.{Order}
@@ -10,10 +12,10 @@ use Rattle.dn_top.specs.declared.options.Order as order
 use Rattle.dn_top.specs.declared.options.Options.{Options}
 use Rattle.program_outside.specs.Words.{bare, faults_in, number_in, number_rule, switch_in, text_rule, values_in, where_taken}
 
--- the command `denovo` with its thirteen options
+-- the command `denovo` with its fifteen options
 unfoldable pub command : App
 command =
-    with_rule (with_rule (with_rule (with_rule (with_rule (with_rule (with_rule (with_rule (with_rule (with_rule (with_rule (with_rule (with_rule (bare (new_app (codes "denovo")))
+    with_rule (with_rule (with_rule (with_rule (with_rule (with_rule (with_rule (with_rule (with_rule (with_rule (with_rule (with_rule (with_rule (with_rule (with_rule (bare (new_app (codes "denovo")))
     (text_rule (codes "mode") (codes "run")))
     (text_rule (codes "addresses") (codes "off")))
     (number_rule (codes "seed") (codes "1")))
@@ -26,7 +28,9 @@ command =
     (number_rule (codes "tick-core") (codes "1")))
     (number_rule (codes "tick-bank") (codes "10")))
     (number_rule (codes "tick-mail") (codes "5")))
-    (text_rule (codes "order") (codes "seed"))
+    (text_rule (codes "order") (codes "seed")))
+    (number_rule (codes "latency") (codes "0")))
+    (text_rule (codes "net") (codes "uniform"))
 
 -- the mode with this name
 abbrev pub mode_named : Text → Option Mode
@@ -62,8 +66,19 @@ order_by workers order.TheVariants.Time = if workers == 1 then Some order.TheVar
 abbrev pub order_in : ℕ → List Row → Option Order
 order_in workers rows = option_and_then (order_by workers) (option_and_then order_named (first_of (codes "order") rows))
 
--- the options that the command's values give, if the mode is one of the nine, each number is in its range, and a run in time
--- order has one worker
+-- the network with this name
+abbrev pub net_named : Text → Option Net
+net_named text =
+    if bytes_eq text (codes "uniform") then Some net.TheVariants.Uniform
+    else if bytes_eq text (codes "mesh") then Some net.TheVariants.Mesh
+    else None
+
+-- the network that the command's values name
+abbrev pub net_in : List Row → Option Net
+net_in rows = option_and_then net_named (first_of (codes "net") rows)
+
+-- the options that the command's values give, if the mode is one of the nine, each number is in its range, a run in time order has
+-- one worker, and the network is one of the two
 unfoldable pub options_from : List Row → Option Options
 options_from rows =
     option_and_then (λ (mode : Mode).
@@ -79,7 +94,11 @@ options_from rows =
     option_and_then (λ (tick_bank : ℕ).
     option_and_then (λ (tick_mail : ℕ).
     option_and_then (λ (order : Order).
-    Some (record { mode = mode; addresses = addresses; order = order; seed = seed; workers = workers; banks = banks; sets = sets; ways = ways; fuel = fuel; size = size; tick_core = tick_core; tick_bank = tick_bank; tick_mail = tick_mail }))
+    option_and_then (λ (latency : ℕ).
+    option_and_then (λ (net : Net).
+    Some (record { mode = mode; addresses = addresses; order = order; seed = seed; workers = workers; banks = banks; sets = sets; ways = ways; fuel = fuel; size = size; tick_core = tick_core; tick_bank = tick_bank; tick_mail = tick_mail; latency = latency; net = net }))
+    (net_in rows))
+    (number_in rows (codes "latency") 0 1000000))
     (order_in workers rows))
     (number_in rows (codes "tick-mail") 1 1000000))
     (number_in rows (codes "tick-bank") 1 1000000))
@@ -109,4 +128,5 @@ pub record OptionsInRange (o : Options) : Type 0 where
   pub tick_core : IsInRange 1 1000000 o.tick_core
   pub tick_bank : IsInRange 1 1000000 o.tick_bank
   pub tick_mail : IsInRange 1 1000000 o.tick_mail
+  pub latency : IsInRange 0 1000000 o.latency
   pub alone : o.order ≡ order.TheVariants.Time → o.workers ≡ 1

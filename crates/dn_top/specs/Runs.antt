@@ -10,11 +10,10 @@ use Rattle.machine_rules.specs.Sound.{IsReady}
 use Rattle.dn_machine.specs.Run.{IsCoherentRun}
 use Rattle.dn_machine.specs.Schedule.{IsScheduled}
 use Rattle.dn_machine.specs.declared.record.RunRecord.{RunRecord}
-use Rattle.run_timing.specs.declared.network.Net.TheVariants.{Uniform}
 use Rattle.run_timing.specs.declared.network.Network.{Network}
 use Rattle.run_timing.specs.declared.ticks.Ticks.{Ticks}
 use Rattle.run_timing.specs.declared.timing.Timing.{Timing}
-use Rattle.run_timing.specs.Ticks.{AreWithinLimits, ticks_by}
+use Rattle.run_timing.specs.Ticks.{AreWithinLimits, through, ticks_by}
 use Rattle.run_timing.specs.Longest.{IsTimingOf}
 use Rattle.run_timing.specs.Text.{timing_of}
 use Rattle.time_order.specs.Clock.{clock_at_start}
@@ -37,19 +36,19 @@ shape_for P o = record { cores = cores_of P; banks = o.banks; sets = o.sets; way
 
 -- ---- how events are picked
 
--- the ticks that the options give to the kinds of event: a core's own, those that a bank handles, and all others
-abbrev pub ticks_for : Options → Ticks
-ticks_for o = ticks_by o.tick_core o.tick_bank o.tick_mail
+-- the network that the options give to messages
+abbrev pub network_for : Options → Network
+network_for o = record { net = o.net; latency = o.latency }
 
--- messages take no time on their way
-abbrev pub no_latency : Network
-no_latency = record { net = Uniform; latency = 0 }
+-- the ticks that the options give to the kinds of event: a core's own, those that a bank handles, and all others; and to messages
+abbrev pub ticks_for : Options → Ticks
+ticks_for o = through (network_for o) (ticks_by o.tick_core o.tick_bank o.tick_mail)
 
 -- the events from state S on are those that one worker picks: by the words of the seed; or in time order, each as the one that can
 -- start first
 abbrev pub ArePickedBy : Order → Options → State → List Event → Type 0
 ArePickedBy order.TheVariants.Seed o S events = IsScheduled S o.seed events
-ArePickedBy order.TheVariants.Time o S events = IsReady S.setting × AreInTimeOrder (ticks_for o) no_latency S clock_at_start events
+ArePickedBy order.TheVariants.Time o S events = IsReady S.setting × AreInTimeOrder (ticks_for o) (network_for o) S clock_at_start events
 
 -- r is a run from state S on, with its events picked as the options ask
 pub record IsPickedRun (o : Options) (S : State) (r : RunRecord) : Type 0 where
@@ -86,7 +85,7 @@ pub record IsPrintedRun (P : ProgramParts) (o : Options) (print : RunRecord → 
 -- a run of the program on the machine of this shape was timed with these ticks. The output hands the run back, sums it up, and
 -- then tells its longest chain of events
 pub record IsTimed (P : ProgramParts) (shape : Shape) (fuel : ℕ) (ticks : Ticks) (run : RunRecord) (out : Output) : Type 0 where
-  -- an event of each kind takes 1 to 1,000,000 ticks
+  -- an event of each kind takes 1 to 1,000,000 ticks, and a message at most 1,000,000 for each hop
   pub limits : AreWithinLimits ticks
   pub timing : Timing
   pub times : IsTimingOf P shape fuel run.events ticks timing

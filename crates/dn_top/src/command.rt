@@ -7,7 +7,7 @@ use program_outside::{OptionValue, bare_command, with_options};
 use std::alloc::{AllocError, Global};
 
 /// The options of the command, with their defaults.
-const OPTIONS: [(&str, OptionValue<'_>); 13] = [
+const OPTIONS: [(&str, OptionValue<'_>); 15] = [
     ("mode", OptionValue::Text("run")),
     ("addresses", OptionValue::Text("off")),
     ("seed", OptionValue::Number("1")),
@@ -21,9 +21,11 @@ const OPTIONS: [(&str, OptionValue<'_>); 13] = [
     ("tick-bank", OptionValue::Number("10")),
     ("tick-mail", OptionValue::Number("5")),
     ("order", OptionValue::Text("seed")),
+    ("latency", OptionValue::Number("0")),
+    ("net", OptionValue::Text("uniform")),
 ];
 
-/// The command with its thirteen options.
+/// The command with its fifteen options.
 #[tactic(auto, unfolding(crate::specs::Command::command))]
 pub(crate) fn denovo<'a>(alloc: Global) -> Result<Command<'a>, AllocError>
     ensures { IfOk result (λ made. app_of made ≡ command) }

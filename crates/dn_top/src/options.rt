@@ -1,3 +1,5 @@
+use run_timing::Net;
+
 /// What the program does with a text (this project's profile).
 #[derive(Clone, Copy)]
 pub enum Mode {
@@ -26,7 +28,7 @@ pub enum Mode {
 pub enum Order {
     /// By the words of the seed's generator.
     Seed,
-    /// The event that can start first by the ticks of its kind. One worker alone makes such a run.
+    /// The event that can start first by the ticks of its kind and of messages. One worker alone makes such a run.
     Time,
 }
 
@@ -58,4 +60,8 @@ pub struct Options {
     pub tick_bank: u32,
     /// Ticks of every other event, from 1 to 1,000,000.
     pub tick_mail: u32,
+    /// Ticks of a message for each hop, from 0 to 1,000,000.
+    pub latency: u32,
+    /// How many hops a message takes.
+    pub net: Net,
 }

@@ -1,6 +1,6 @@
 ghost use Rattle.std.specs.Prelude.{◌≡◌, IfOk, IfErr, map, string_bytes, Some, None, option_map};
 ghost use Rattle.clap.specs.Words.{rows_of, found_of, first_of};
-ghost use Rattle.dn_top.specs.Command.{mode_named, mode_in, order_by, order_in, order_named, options_from, options_of, OptionsInRange};
+ghost use Rattle.dn_top.specs.Command.{mode_named, mode_in, net_named, net_in, order_by, order_in, order_named, options_from, options_of, OptionsInRange};
 ghost use Rattle.dn_top.specs.declared.options.Order.TheVariants.{Time as TimeOrder};
 ghost use Rattle.program_outside.specs.declared.words.WordsFault.TheVariants.{Usage};
 
@@ -8,6 +8,7 @@ use crate::command::denovo;
 use crate::options::{Mode, Options, Order};
 use clap::ArgMatches;
 use program_outside::{WordsFault, matches_by, number, switch, text_of};
+use run_timing::Net;
 use std::alloc::Global;
 
 /// The mode with this name.
@@ -72,8 +73,29 @@ fn order(matches: &ArgMatches<'_>, workers: u32) -> Option<Order>
     }
 }
 
-/// The options that the values give, if the mode is one of the nine, each number is in its range, and a run in time order has one
-/// worker.
+/// The network with this name.
+fn net_named(text: &str) -> Option<Net>
+    ensures { result ≡ net_named text.now }
+{
+    match text {
+        "uniform" => Some(Net::Uniform),
+        "mesh" => Some(Net::Mesh),
+        _ => None,
+    }
+}
+
+/// The network that the words ask for.
+fn net(matches: &ArgMatches<'_>) -> Option<Net>
+    ensures { result ≡ net_in (rows_of (found_of matches.now)) }
+{
+    match text_of(matches, "net") {
+        Some(text) => net_named(text),
+        None => None,
+    }
+}
+
+/// The options that the values give, if the mode is one of the nine, each number is in its range, a run in time order has one worker,
+/// and the network is one of the two.
 #[tactic(auto, unfolding(crate::specs::Command::options_from))]
 fn options(matches: &ArgMatches<'_>) -> Option<Options>
     ensures value { result ≡ options_from (rows_of (found_of matches.now)) }
@@ -97,14 +119,17 @@ fn options(matches: &ArgMatches<'_>) -> Option<Options>
         tick_bank: number(matches, "tick-bank", 1, 1_000_000)?,
         tick_mail: number(matches, "tick-mail", 1, 1_000_000)?,
         order: order(matches, workers)?,
+        latency: number(matches, "latency", 0, 1_000_000)?,
+        net: net(matches)?,
     })
 }
 
 /// What the arguments ask for. The program's own name isn't among them.
 ///
 /// The options are `--mode`, `--addresses`, `--seed`, `--workers`, `--banks`, `--sets`, `--ways`, `--fuel`, `--size`, `--tick-core`,
-/// `--tick-bank`, `--tick-mail` and `--order`. Each has one value, whose range stands in `Options`, and may be given once at most, as
-/// `--seed 7` or `--seed=7`. The defaults are run, off, 1, 1, 4, 64, 4, 32768, 4, 1, 10, 5 and seed. No other words are taken.
+/// `--tick-bank`, `--tick-mail`, `--order`, `--latency` and `--net`. Each has one value, whose range stands in `Options`, and may be
+/// given once at most, as `--seed 7` or `--seed=7`. The defaults are run, off, 1, 1, 4, 64, 4, 32768, 4, 1, 10, 5, seed, 0 and uniform.
+/// No other words are taken.
 ///
 /// # Errors
 /// `Usage` if the command doesn't take the words, `Memory` if there is no room to read them.

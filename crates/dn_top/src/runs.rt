@@ -3,6 +3,7 @@ ghost use Rattle.dn_top.specs.Command.{OptionsInRange};
 ghost use Rattle.machine_rules.specs.State.{initial_state};
 ghost use Rattle.run_report.specs.Summary.{summary_of};
 ghost use Rattle.run_replay.specs.Document.{FitsDocument, IsTrace};
+ghost use Rattle.run_timing.specs.Network.{IsWithinLatency};
 ghost use Rattle.run_timing.specs.Text.{timing_of};
 ghost use Rattle.run_timing.specs.Ticks.{AreWithinLimits};
 ghost use Rattle.dn_top.specs.declared.options.Order.TheVariants.{Time as TimeOrder};
@@ -10,7 +11,7 @@ ghost use Rattle.dn_top.specs.Answers.{IsRunOfText};
 ghost use Rattle.run_report.specs.Texts.{IsStop, IsUnfit};
 ghost use Rattle.dn_top.specs.Documents.{trace_of};
 ghost use Rattle.checked_runs.specs.Runs.{IsPrintable, reported, summed_up};
-ghost use Rattle.dn_top.specs.Runs.{IsPickedRun, IsRunFor, no_latency, output_of_run, shape_for, ticks_for, with_one_worker};
+ghost use Rattle.dn_top.specs.Runs.{IsPickedRun, IsRunFor, network_for, output_of_run, shape_for, ticks_for, with_one_worker};
 
 use crate::options::{Options, Order};
 use crate::output::Output;
@@ -20,7 +21,7 @@ use effect_checker::Checked;
 use grant_log::Counts;
 use region_table::Program;
 use run_report::{Stop, checked_of, report, summary};
-use run_timing::{Net, Network, Ticks, Timing, push_timing};
+use run_timing::{Network, Ticks, Timing, push_timing};
 use rv_core::Ending;
 use std::alloc::Global;
 use time_order::run_in_time_order;
@@ -45,17 +46,19 @@ pub(crate) fn has_each_kind(counts: &Counts)
     let _kinds = &counts.kinds;
 }
 
-/// A network in which messages take no time on their way.
-fn no_latency() -> Network
-    ensures { result ≡ no_latency }
+/// The network that the options give to messages.
+fn network_of(options: &Options) -> Network
+    requires { OptionsInRange options.now }
+    ensures value { result ≡ network_for options.now }
+    ensures latency { IsWithinLatency result }
 {
     Network {
-        net: Net::Uniform,
-        latency: 0,
+        net: options.net,
+        latency: options.latency,
     }
 }
 
-/// Runs a machine on which no event has come, in time order, by the ticks of the options.
+/// Runs a machine on which no event has come, in time order, by the ticks and the network of the options.
 pub(crate) fn run_in_order(
     alloc: Global,
     options: &Options,
@@ -70,7 +73,7 @@ pub(crate) fn run_in_order(
 {
     // for the proof alone: the setting of the machine is ready
     a_machine_is_kept(machine);
-    run_in_time_order(alloc, machine, &ticks_of(options), &no_latency())
+    run_in_time_order(alloc, machine, &ticks_of(options), &network_of(options))
 }
 
 /// Runs a machine on which no event has come, with its events picked as the options ask.
@@ -147,13 +150,14 @@ pub(crate) fn sum_up_run(alloc: Global, run: RunRecord) -> Result<Output, Memory
     Ok(handed_back(text, run))
 }
 
-/// The ticks that the options give to each kind of event.
+/// The ticks that the options give to each kind of event, and to messages.
 pub(crate) fn ticks_of(options: &Options) -> Ticks
     requires { OptionsInRange options.now }
     ensures value { result ≡ ticks_for options.now }
     ensures limits { AreWithinLimits result }
 {
-    Ticks::by_place(options.tick_core, options.tick_bank, options.tick_mail)
+    let events = Ticks::by_place(options.tick_core, options.tick_bank, options.tick_mail);
+    events.with_network(network_of(options))
 }
 
 /// Sums up how a run ended, and then tells its timing.

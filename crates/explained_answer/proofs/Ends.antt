@@ -178,6 +178,7 @@ no-line bytes outcomes tasks words grants counts others (line.TheVariants.Count 
     counts c n rest (record { fits = st.fits; parts = rw (← count-is c n) st.parts })
 no-line bytes outcomes tasks words grants counts others (line.TheVariants.Sum v) rest st = others (line.TheVariants.Sum v) rest (record { fits = st.fits; parts = st.parts })
 no-line bytes outcomes tasks words grants counts others (line.TheVariants.Time t) rest st = others (line.TheVariants.Time t) rest (record { fits = st.fits; parts = st.parts })
+no-line bytes outcomes tasks words grants counts others (line.TheVariants.Network t) rest st = others (line.TheVariants.Network t) rest (record { fits = st.fits; parts = st.parts })
 no-line bytes outcomes tasks words grants counts others (line.TheVariants.Link l) rest st = others (line.TheVariants.Link l) rest (record { fits = st.fits; parts = st.parts })
 no-line bytes outcomes tasks words grants counts others (line.TheVariants.Checked a b c) rest st = others (line.TheVariants.Checked a b c) rest (record { fits = st.fits; parts = st.parts })
 no-line bytes outcomes tasks words grants counts others (line.TheVariants.Unbounded p c a) rest st = others (line.TheVariants.Unbounded p c a) rest (record { fits = st.fits; parts = st.parts })

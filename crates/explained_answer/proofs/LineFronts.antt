@@ -133,6 +133,7 @@ line_front (line.TheVariants.Grant g) = codes "grant "
 line_front (line.TheVariants.Count c n) = count_front c
 line_front (line.TheVariants.Sum v) = codes "sum "
 line_front (line.TheVariants.Time t) = codes "time "
+line_front (line.TheVariants.Network t) = codes "network "
 line_front (line.TheVariants.Link l) = codes "link "
 line_front (line.TheVariants.Checked a b c) = codes "checked "
 line_front (line.TheVariants.Unbounded p c a) = codes "unbounded "
@@ -152,6 +153,7 @@ line_form (line.TheVariants.Grant g) = line.TheVariants.Grant (record { phase = 
 line_form (line.TheVariants.Count c n) = line.TheVariants.Count c 0
 line_form (line.TheVariants.Sum v) = line.TheVariants.Sum 0
 line_form (line.TheVariants.Time t) = line.TheVariants.Time 0
+line_form (line.TheVariants.Network t) = line.TheVariants.Network 0
 line_form (line.TheVariants.Link l) = line.TheVariants.Link (record { event = 0; kind = event.TheVariants.Instr; finish = 0 })
 line_form (line.TheVariants.Checked a b c) = line.TheVariants.Checked 0 0 0
 line_form (line.TheVariants.Unbounded p c a) = line.TheVariants.Unbounded 0 0 0
@@ -169,7 +171,7 @@ line_forms =
     ∷ line.TheVariants.Fixed fixed.TheVariants.Head ∷ line.TheVariants.Fixed fixed.TheVariants.Rest ∷ line.TheVariants.Fixed fixed.TheVariants.Incomplete
     ∷ line.TheVariants.Task (record { phase = record { 0 = 0 }; core = record { 0 = 0 }; end = shown.TheVariants.Finished; retired = 0 })
     ∷ line.TheVariants.Word 0 0 ∷ line.TheVariants.Grant (record { phase = record { 0 = 0 }; core = record { 0 = 0 }; lock = record { 0 = 0 } })
-    ∷ line.TheVariants.Sum 0 ∷ line.TheVariants.Time 0 ∷ line.TheVariants.Link (record { event = 0; kind = event.TheVariants.Instr; finish = 0 })
+    ∷ line.TheVariants.Sum 0 ∷ line.TheVariants.Time 0 ∷ line.TheVariants.Network 0 ∷ line.TheVariants.Link (record { event = 0; kind = event.TheVariants.Instr; finish = 0 })
     ∷ line.TheVariants.Checked 0 0 0 ∷ line.TheVariants.Unbounded 0 0 0
     ∷ line.TheVariants.Varies 0 ∷ line.TheVariants.OpenControl 0 0 0 ∷ line.TheVariants.OpenHeld 0 0 0 ∷ line.TheVariants.OpenStuck 0 0 ∷ map (λ (c : Count). line.TheVariants.Count c 0) all_counts
 
@@ -216,6 +218,7 @@ line-shows (line.TheVariants.Count count.TheVariants.WholeEvents n) r fits = ref
 line-shows (line.TheVariants.Count count.TheVariants.EnabledEvents n) r fits = refl
 line-shows (line.TheVariants.Sum v) r fits = refl
 line-shows (line.TheVariants.Time t) r fits = refl
+line-shows (line.TheVariants.Network t) r fits = refl
 line-shows (line.TheVariants.Link l) r fits = refl
 line-shows (line.TheVariants.Checked a b c) r fits = refl
 line-shows (line.TheVariants.Unbounded p c a) r fits = refl
@@ -239,6 +242,7 @@ IsLike (line.TheVariants.Grant g) y = (h : Grant) × (y ≡ line.TheVariants.Gra
 IsLike (line.TheVariants.Count c n) y = (m : ℕ) × (y ≡ line.TheVariants.Count c m)
 IsLike (line.TheVariants.Sum v) y = (w : ℕ) × (y ≡ line.TheVariants.Sum w)
 IsLike (line.TheVariants.Time t) y = (u : ℕ) × (y ≡ line.TheVariants.Time u)
+IsLike (line.TheVariants.Network t) y = (u : ℕ) × (y ≡ line.TheVariants.Network u)
 IsLike (line.TheVariants.Link l) y = (k : Link) × (y ≡ line.TheVariants.Link k)
 IsLike (line.TheVariants.Checked a b c) y = (d : ℕ) × (e : ℕ) × (f : ℕ) × (y ≡ line.TheVariants.Checked d e f)
 IsLike (line.TheVariants.Unbounded p c a) y = (d : ℕ) × (e : ℕ) × (f : ℕ) × (y ≡ line.TheVariants.Unbounded d e f)
@@ -256,6 +260,7 @@ line-of-form (line.TheVariants.Grant g) = (g, refl)
 line-of-form (line.TheVariants.Count c n) = (n, refl)
 line-of-form (line.TheVariants.Sum v) = (v, refl)
 line-of-form (line.TheVariants.Time t) = (t, refl)
+line-of-form (line.TheVariants.Network t) = (t, refl)
 line-of-form (line.TheVariants.Link l) = (l, refl)
 line-of-form (line.TheVariants.Checked a b c) = (a, b, c, refl)
 line-of-form (line.TheVariants.Unbounded p c a) = (p, c, a, refl)

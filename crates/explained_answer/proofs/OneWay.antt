@@ -22,7 +22,7 @@ use Rattle.explained_answer.specs.declared.tasks.Trapped.{Trapped}
 use Rattle.explained_answer.specs.Parts.{IsNumber, IsTicks, pair_fields, three_line, hexadecimal_line}
 use Rattle.explained_answer.specs.AnswerLines.{HasGrantNumbers, HasTrapNumbers, HasEndNumbers, HasTaskNumbers, HasLinkNumbers, HasUnboundedNumbers, IsDataWord, IsShownWord, IsAnswerLine, answer_line, address_line, link_line, sum_line, place_line, varies_line, fixed_line, trap_front, trap_rest, stop_by, count_front, count_line_of, kind_front}
 use Rattle.explained_answer.proofs.Forms.{two-next, trap-parts, address-parts, word-is}
-use Rattle.explained_answer.proofs.Others.{link-parts, three-parts, place-parts, varies-parts, hexadecimal-parts, sum-parts, grant-is, time-is}
+use Rattle.explained_answer.proofs.Others.{link-parts, three-parts, place-parts, varies-parts, hexadecimal-parts, sum-parts, grant-is, ticks-is}
 use Rattle.explained_answer.proofs.Ends.{task-parts, count-is}
 use Rattle.explained_answer.proofs.Ticks.{value-of, rest-of}
 use Rattle.explained_answer.proofs.LineFronts.{kind-same, IsEndLike, end_form, end-like, line_form, IsLike, line-like}
@@ -124,9 +124,9 @@ count-one c m n r q fm fn is =
 sum-one : IsOne IsWord sum_line
 sum-one v w r q fv fw is = word-line-one v w r q fv fw (append_cancel_left (codes "sum ") _ _ (sym (sum-parts v r) ∙ is ∙ sum-parts w q))
 
-time-one : IsOne IsTicks (count_line (codes "time "))
-time-one t u r q ft fu is =
-    ticks-one (codes "time ") t u r q ft fu (ap (λ bs. bs ++ r) (sym (time-is t)) ∙ is ∙ ap (λ bs. bs ++ q) (time-is u))
+named-ticks-one : (name : List ℕ) → IsOne IsTicks (count_line name)
+named-ticks-one name t u r q ft fu is =
+    ticks-one name t u r q ft fu (ap (λ bs. bs ++ r) (sym (ticks-is name t)) ∙ is ∙ ap (λ bs. bs ++ q) (ticks-is name u))
 
 link-one : IsOne HasLinkNumbers link_line
 link-one k l r q fk fl is =
@@ -179,7 +179,10 @@ one-of-form (line.TheVariants.Sum v) y r q fits is =
     let one = sum-one v is.0 r q fits fits' same in (ap line.TheVariants.Sum one.0, one.1))
 one-of-form (line.TheVariants.Time t) y r q fits is =
     subst (IsSame (line.TheVariants.Time t) r q) (sym is.1) (λ fits' same.
-    let one = time-one t is.0 r q fits fits' same in (ap line.TheVariants.Time one.0, one.1))
+    let one = named-ticks-one (codes "time ") t is.0 r q fits fits' same in (ap line.TheVariants.Time one.0, one.1))
+one-of-form (line.TheVariants.Network t) y r q fits is =
+    subst (IsSame (line.TheVariants.Network t) r q) (sym is.1) (λ fits' same.
+    let one = named-ticks-one (codes "network ") t is.0 r q fits fits' same in (ap line.TheVariants.Network one.0, one.1))
 one-of-form (line.TheVariants.Link l) y r q fits is =
     subst (IsSame (line.TheVariants.Link l) r q) (sym is.1) (λ fits' same.
     let one = link-one l is.0 r q fits fits' same in (ap line.TheVariants.Link one.0, one.1))

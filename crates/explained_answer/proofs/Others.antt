@@ -66,9 +66,9 @@ sum-none bytes behind is None h = λ v rest st.
     h v rest (record { fits = st.fits; parts = append_cancel_left (codes "sum ") _ _ (sym is ∙ st.parts ∙ sum-parts v rest) })
 sum-none bytes behind is (Some f) h = tt
 
-pub time-is : (t : ℕ) → count_line (codes "time ") t ≡ field (codes "time ") newline t
+pub ticks-is : (name : List ℕ) (t : ℕ) → count_line name t ≡ field name newline t
 unfolding count_line field
-time-is t = refl
+ticks-is name t = refl
 
 -- no line without a number stands there where none of the six does
 pub no-fixed : (bytes : List ℕ) → ((rest : List ℕ) → bytes ≢ (codes "proved inside" ++ newline) ++ rest) → ((rest : List ℕ) → bytes ≢ (codes "refused usage" ++ newline) ++ rest)
@@ -86,28 +86,29 @@ no-fixed bytes inside usage large head rest' incomplete fixed.TheVariants.Incomp
 -- none of these lines stands there where none of their forms does
 pub no-other : (bytes : List ℕ) → ((a b c : ℕ) (rest : List ℕ) → StandThree (codes "checked ") bytes a b c rest → ⊥)
     → ((p c a : ℕ) (rest : List ℕ) → StandPlace (codes "unbounded ") bytes p c a rest → ⊥) → NoneStands IsWord sum_line bytes
-    → NoneStands IsTicks (field (codes "time ") newline) bytes → NoneStands HasLinkNumbers link_line bytes
+    → NoneStands IsTicks (field (codes "time ") newline) bytes → NoneStands IsTicks (field (codes "network ") newline) bytes → NoneStands HasLinkNumbers link_line bytes
     → ((l : FixedLine) (rest : List ℕ) → bytes ≢ fixed_line l ++ rest) → NoneStands IsOpenLine answer_line bytes → NoneStands IsOtherLine answer_line bytes
-no-other bytes checked unbounded sums times links fixeds opens (line.TheVariants.Sum v) rest st = sums v rest (record { fits = st.fits; parts = st.parts })
-no-other bytes checked unbounded sums times links fixeds opens (line.TheVariants.Time t) rest st = times t rest (record { fits = st.fits; parts = rw (← time-is t) st.parts })
-no-other bytes checked unbounded sums times links fixeds opens (line.TheVariants.Link l) rest st = links l rest (record { fits = st.fits; parts = st.parts })
-no-other bytes checked unbounded sums times links fixeds opens (line.TheVariants.Checked a b c) rest st =
+no-other bytes checked unbounded sums times networks links fixeds opens (line.TheVariants.Sum v) rest st = sums v rest (record { fits = st.fits; parts = st.parts })
+no-other bytes checked unbounded sums times networks links fixeds opens (line.TheVariants.Time t) rest st = times t rest (record { fits = st.fits; parts = rw (← ticks-is (codes "time ") t) st.parts })
+no-other bytes checked unbounded sums times networks links fixeds opens (line.TheVariants.Network t) rest st = networks t rest (record { fits = st.fits; parts = rw (← ticks-is (codes "network ") t) st.parts })
+no-other bytes checked unbounded sums times networks links fixeds opens (line.TheVariants.Link l) rest st = links l rest (record { fits = st.fits; parts = st.parts })
+no-other bytes checked unbounded sums times networks links fixeds opens (line.TheVariants.Checked a b c) rest st =
     checked a b c rest (record { first_from = st.fits.phases_from; second_from = st.fits.tasks_from; third_from = st.fits.words_from; parts = st.parts })
-no-other bytes checked unbounded sums times links fixeds opens (line.TheVariants.Unbounded p c a) rest st = unbounded p c a rest (record { numbers = st.fits; parts = st.parts })
-no-other bytes checked unbounded sums times links fixeds opens (line.TheVariants.Varies w) rest st =
+no-other bytes checked unbounded sums times networks links fixeds opens (line.TheVariants.Unbounded p c a) rest st = unbounded p c a rest (record { numbers = st.fits; parts = st.parts })
+no-other bytes checked unbounded sums times networks links fixeds opens (line.TheVariants.Varies w) rest st =
     opens (line.TheVariants.Varies w) rest (record { fits = st.fits; parts = st.parts })
-no-other bytes checked unbounded sums times links fixeds opens (line.TheVariants.OpenControl p c a) rest st =
+no-other bytes checked unbounded sums times networks links fixeds opens (line.TheVariants.OpenControl p c a) rest st =
     opens (line.TheVariants.OpenControl p c a) rest (record { fits = st.fits; parts = st.parts })
-no-other bytes checked unbounded sums times links fixeds opens (line.TheVariants.OpenHeld p c l) rest st =
+no-other bytes checked unbounded sums times networks links fixeds opens (line.TheVariants.OpenHeld p c l) rest st =
     opens (line.TheVariants.OpenHeld p c l) rest (record { fits = st.fits; parts = st.parts })
-no-other bytes checked unbounded sums times links fixeds opens (line.TheVariants.OpenStuck p l) rest st =
+no-other bytes checked unbounded sums times networks links fixeds opens (line.TheVariants.OpenStuck p l) rest st =
     opens (line.TheVariants.OpenStuck p l) rest (record { fits = st.fits; parts = st.parts })
-no-other bytes checked unbounded sums times links fixeds opens (line.TheVariants.Fixed f) rest st = fixeds f rest st.parts
-no-other bytes checked unbounded sums times links fixeds opens (line.TheVariants.Outcome o) rest st = st.fits
-no-other bytes checked unbounded sums times links fixeds opens (line.TheVariants.Task t) rest st = st.fits
-no-other bytes checked unbounded sums times links fixeds opens (line.TheVariants.Word w v) rest st = st.fits
-no-other bytes checked unbounded sums times links fixeds opens (line.TheVariants.Grant g) rest st = st.fits
-no-other bytes checked unbounded sums times links fixeds opens (line.TheVariants.Count c n) rest st = st.fits
+no-other bytes checked unbounded sums times networks links fixeds opens (line.TheVariants.Fixed f) rest st = fixeds f rest st.parts
+no-other bytes checked unbounded sums times networks links fixeds opens (line.TheVariants.Outcome o) rest st = st.fits
+no-other bytes checked unbounded sums times networks links fixeds opens (line.TheVariants.Task t) rest st = st.fits
+no-other bytes checked unbounded sums times networks links fixeds opens (line.TheVariants.Word w v) rest st = st.fits
+no-other bytes checked unbounded sums times networks links fixeds opens (line.TheVariants.Grant g) rest st = st.fits
+no-other bytes checked unbounded sums times networks links fixeds opens (line.TheVariants.Count c n) rest st = st.fits
 
 -- no line on what runs have in common stands there where none of their forms does
 pub no-open : (bytes : List ℕ) → NoneStands IsDataWord varies_line bytes → ((p c a : ℕ) (rest : List ℕ) → StandPlace (codes "open control ") bytes p c a rest → ⊥)
@@ -126,6 +127,7 @@ no-open bytes varies control held stuck (line.TheVariants.Grant g) rest st = st.
 no-open bytes varies control held stuck (line.TheVariants.Count c n) rest st = st.fits
 no-open bytes varies control held stuck (line.TheVariants.Sum v) rest st = st.fits
 no-open bytes varies control held stuck (line.TheVariants.Time t) rest st = st.fits
+no-open bytes varies control held stuck (line.TheVariants.Network t) rest st = st.fits
 no-open bytes varies control held stuck (line.TheVariants.Link l) rest st = st.fits
 no-open bytes varies control held stuck (line.TheVariants.Checked a b c) rest st = st.fits
 no-open bytes varies control held stuck (line.TheVariants.Unbounded p c a) rest st = st.fits

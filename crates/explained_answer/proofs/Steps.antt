@@ -57,6 +57,7 @@ line-some (line.TheVariants.Count count.TheVariants.WholeEvents n) fits = behind
 line-some (line.TheVariants.Count count.TheVariants.EnabledEvents n) fits = behind-line (codes "refused trace not-enabled " ++ decimal n)
 line-some (line.TheVariants.Sum v) fits = behind-line (codes "sum " ++ hexadecimal v)
 line-some (line.TheVariants.Time t) fits = behind-line (codes "time " ++ decimal t)
+line-some (line.TheVariants.Network t) fits = behind-line (codes "network " ++ decimal t)
 line-some (line.TheVariants.Link l) fits = behind-line (codes "link " ++ decimal l.event ++ space ++ event_word l.kind ++ space ++ decimal l.finish)
 line-some (line.TheVariants.Checked a b c) fits = behind-line (codes "checked " ++ decimal a ++ space ++ decimal b ++ space ++ decimal c)
 line-some (line.TheVariants.Unbounded p c a) fits = behind-line (codes "unbounded " ++ decimal p ++ space ++ decimal c ++ space ++ hexadecimal a)

@@ -23,7 +23,7 @@ module _ (bytes : List ℕ) (n : ℕ) (rest : List ℕ) (ticks : IsTicks n) (is 
   pub rest-of : drop (length (front bytes)) bytes ≡ 10 ∷ rest
   rest-of = ap (λ ds. drop (length ds) bytes) digits ∙ ap (drop (length (decimal n))) is ∙ drop-append_seam (decimal n) (10 ∷ rest)
 
-pub ticks-parts : (bytes : List ℕ) (v k : ℕ) → v ≡ digits_value 10 (front bytes) → k ≡ length (front bytes) → v ≤ 25169664000000 → SeemsPlain bytes k
+pub ticks-parts : (bytes : List ℕ) (v k : ℕ) → v ≡ digits_value 10 (front bytes) → k ≡ length (front bytes) → v ≤ 176187648000000 → SeemsPlain bytes k
     → bytes ≡ decimal v ++ take (length bytes - k) (drop k bytes)
 ticks-parts bytes v k value count small seems =
     let fits : digits_value 10 (front bytes) < 2 ^ 64 = omega (arith, value) in

@@ -56,7 +56,7 @@ is_answer a b c =
     || (are_three 99 111 117 a b c || (are_three 114 101 116 a b c || (are_three 99 104 97 a b c || (are_three 114 101 102 a b c
     || (are_three 115 117 109 a b c || (are_three 116 105 109 a b c || (are_three 108 105 110 a b c || (are_three 99 104 101 a b c
     || (are_three 117 110 98 a b c || (are_three 112 114 111 a b c || (are_three 100 101 110 a b c
-    || (are_three 118 97 114 a b c || are_three 111 112 101 a b c)))))))))))))))
+    || (are_three 118 97 114 a b c || (are_three 111 112 101 a b c || are_three 110 101 116 a b c))))))))))))))))
 
 -- whether bytes begin so
 abbrev begins_answer : List ℕ → Bool
@@ -324,6 +324,7 @@ line-begins (line.TheVariants.Count count.TheVariants.EnabledEvents n) fits =
     begins _ 114 101 102 (codes "used trace not-enabled " ++ decimal n ++ newline) refl refl refl refl
 line-begins (line.TheVariants.Sum v) fits = begins _ 115 117 109 (codes " " ++ hexadecimal v ++ newline) refl refl refl refl
 line-begins (line.TheVariants.Time t) fits = begins _ 116 105 109 (codes "e " ++ decimal t ++ newline) refl refl refl refl
+line-begins (line.TheVariants.Network t) fits = begins _ 110 101 116 (codes "work " ++ decimal t ++ newline) refl refl refl refl
 line-begins (line.TheVariants.Link l) fits =
     begins _ 108 105 110 (codes "k " ++ decimal l.event ++ space ++ event_word l.kind ++ space ++ decimal l.finish ++ newline) refl refl refl refl
 line-begins (line.TheVariants.Checked p t w) fits =

@@ -123,6 +123,7 @@ sentences_behind text l still named (line.TheVariants.Unbounded phase core at) =
 sentences_behind text l still named (line.TheVariants.Count c number) = []
 sentences_behind text l still named (line.TheVariants.Sum value) = []
 sentences_behind text l still named (line.TheVariants.Time ticks) = []
+sentences_behind text l still named (line.TheVariants.Network ticks) = []
 sentences_behind text l still named (line.TheVariants.Link k) = []
 sentences_behind text l still named (line.TheVariants.Checked phases tasks words) = []
 sentences_behind text l still named (line.TheVariants.Varies word) = varying_word l word

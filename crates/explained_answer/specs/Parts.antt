@@ -18,9 +18,10 @@ pub record StandPair (first second : List ℕ) (stop : ℕ) (bytes : List ℕ) (
   pub second_from : IsNumber b
   pub parts : bytes ≡ pair_fields first second stop a b ++ rest
 
--- a run takes at most 1,000,000 ticks for each of at most 25,169,664 events
+-- a run takes at most 7,000,000 ticks for each of at most 25,169,664 events: 1,000,000 for itself, and 1,000,000 for each of at most 6
+-- hops of its message
 abbrev pub IsTicks : ℕ → Type 0
-IsTicks n = IsFrom 0 25169664000000 n
+IsTicks n = IsFrom 0 176187648000000 n
 
 -- a line of three numbers after a name
 unfoldable pub three_line : List ℕ → ℕ → ℕ → ℕ → List ℕ

@@ -67,6 +67,8 @@ pub enum AnswerLine {
     Sum { value: u32 },
     /// How many ticks the run takes.
     Time { ticks: u64 },
+    /// For how many ticks of its longest chain messages are under way.
+    Network { ticks: u64 },
     /// An event of the longest chain.
     Link(Link),
     /// A checked program has this many phases, tasks and data words.

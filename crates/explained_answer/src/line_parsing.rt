@@ -9,7 +9,7 @@ use crate::long::ticks;
 use crate::numbers::{three_numbers, two_numbers};
 use crate::programs::{fixed_line, place_line, sum, varies};
 use crate::tasks::task;
-use crate::timing::link;
+use crate::timing::{link, network};
 use crate::words::{count, outcome, word};
 use dn_base::{CoreId, Grant, LockId, PhaseId};
 
@@ -68,6 +68,9 @@ fn read_other(bytes: &[u8]) -> Option<(AnswerLine, &[u8])>
     }
     if let Some((ticks, rest)) = ticks(bytes, b"time ") {
         return Some((AnswerLine::Time { ticks }, rest));
+    }
+    if let Some((ticks, rest)) = network(bytes) {
+        return Some((AnswerLine::Network { ticks }, rest));
     }
     if let Some((link, rest)) = link(bytes) {
         return Some((AnswerLine::Link(link), rest));

@@ -293,6 +293,7 @@ fn push_sentences<'a>(
         AnswerLine::Count { .. }
         | AnswerLine::Sum { .. }
         | AnswerLine::Time { .. }
+        | AnswerLine::Network { .. }
         | AnswerLine::Link(_)
         | AnswerLine::Checked { .. }
         | AnswerLine::Fixed(_) => Ok(()),

@@ -9,14 +9,14 @@ ghost use Rattle.explained_answer.specs.Parts.{IsTicks};
 
 use text_pieces::behind;
 
-/// The greatest number of ticks of a run: 25,169,664 events of 1,000,000 ticks.
-const MOST_TICKS: u64 = 25_169_664_000_000;
+/// The greatest number of ticks of a run: 25,169,664 events of 1,000,000 ticks, each with a message that takes 6 hops of 1,000,000.
+const MOST_TICKS: u64 = 176_187_648_000_000;
 
 /// The value of the digits at the start of some bytes, if it is at most `MOST_TICKS`, and how many digits there are.
 pub(crate) fn digits(bytes: &[u8]) -> Option<(u64, usize)>
-    ensures value { IfSome result (λ d. (d.0 ≡ digits_value 10 (take_while is_ascii_digit bytes.now)) × (d.0 ≤ 25169664000000)) }
+    ensures value { IfSome result (λ d. (d.0 ≡ digits_value 10 (take_while is_ascii_digit bytes.now)) × (d.0 ≤ 176187648000000)) }
     ensures length { IfSome result (λ d. d.1 ≡ length (take_while is_ascii_digit bytes.now)) }
-    ensures none { IfNone result (25169664000000 < digits_value 10 (take_while is_ascii_digit bytes.now)) }
+    ensures none { IfNone result (176187648000000 < digits_value 10 (take_while is_ascii_digit bytes.now)) }
 {
     let mut value = 0;
     let mut length = 0;

@@ -111,6 +111,7 @@ fn fits_program(located: &Located, line: AnswerLine) -> bool
         }
         AnswerLine::Sum { .. }
         | AnswerLine::Time { .. }
+        | AnswerLine::Network { .. }
         | AnswerLine::Link(_)
         | AnswerLine::Fixed(_) => true,
     }

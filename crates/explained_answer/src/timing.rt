@@ -1,5 +1,5 @@
 //! The lines of the time that a run takes, and of its longest chain.
-ghost use Rattle.std.specs.Prelude.{◌≡◌, IfSome, IfNone};
+ghost use Rattle.std.specs.Prelude.{◌≡◌, codes, IfSome, IfNone};
 ghost use Rattle.message_net.specs.declared.event.EventKind.{EventKind as EventKindOf};
 ghost use Rattle.run_report.specs.Run.{all_kinds};
 ghost use Rattle.text_pieces.specs.Pieces.{newline};
@@ -12,6 +12,14 @@ use crate::long::ticks;
 use message_net::EventKind;
 use run_report::all_kinds;
 use text_pieces::field;
+
+/// The ticks for which messages are under way, whose line stands at the start of some bytes, and what follows it.
+pub(crate) fn network(bytes: &[u8]) -> Option<(u64, &[u8])>
+    ensures some { IfSome result (λ f. Stands IsTicks (field (codes "network ") newline) bytes.now f.0 f.1.now) }
+    ensures none { IfNone result (NoneStands IsTicks (field (codes "network ") newline) bytes.now) }
+{
+    ticks(bytes, b"network ")
+}
 
 /// What stands before the ticks in the line of an event of this kind.
 fn kind_front(kind: EventKind) -> &'static [u8]

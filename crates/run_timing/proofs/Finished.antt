@@ -11,7 +11,8 @@ use Rattle.run_timing.specs.declared.ticks.Ticks.{Ticks}
 use Rattle.run_timing.specs.Depends.{IsOwnBefore, IsSender, DependsOn}
 use Rattle.run_timing.specs.Finishes.{finish_at, AreFinishes, AreFinishesOf, IsBehindAll}
 use Rattle.run_timing.specs.Noted.{AreRowsOf}
-use Rattle.run_timing.specs.Rows.{finish_in, before_in, behind}
+use Rattle.run_timing.specs.Rows.{finish_in, before_in, behind, reach_of}
+use Rattle.run_timing.specs.Steps.{step_delay}
 use Rattle.run_timing.specs.Ticks.{ticks_at}
 use Rattle.run_timing.proofs.IsLongest.{rows-of}
 use Rattle.run_timing.proofs.Longest.{finishes}
@@ -19,11 +20,11 @@ use Rattle.run_timing.proofs.Started.{setting-of}
 
 module _ (ticks : Ticks) (S : State) (events : List Event) (rows : Rows) (noted : AreRowsOf ticks S events rows) where
   soon : (i : ℕ) → i < length events → (o : Option ℕ) → before_in rows i ≡ o
-      → (finish_in rows i ≡ ticks_at ticks S events i) ⊎ ((p : ℕ) × DependsOn S events p i × (finish_in rows i ≡ finish_in rows p + ticks_at ticks S events i))
-  soon i within None e = inl (omega (arith, (noted.row i within).finish, ap (behind (finish_in rows)) e))
-  soon i within (Some p) e = inr (p, (noted.row i within).depends p e, omega (arith, (noted.row i within).finish, ap (behind (finish_in rows)) e))
+      → (finish_in rows i ≡ ticks_at ticks S events i) ⊎ ((p : ℕ) × DependsOn S events p i × (finish_in rows i ≡ finish_in rows p + step_delay ticks S events p i + ticks_at ticks S events i))
+  soon i within None e = inl (omega (arith, (noted.row i within).finish, ap (behind (reach_of (finish_in rows) (step_delay ticks S events) i)) e))
+  soon i within (Some p) e = inr (p, (noted.row i within).depends p e, omega (arith, (noted.row i within).finish, ap (behind (reach_of (finish_in rows) (step_delay ticks S events) i)) e))
 
-  behind-all : (i : ℕ) → i < length events → IsBehindAll (DependsOn S events) (ticks_at ticks S events) (finish_at rows.finishes) i
+  behind-all : (i : ℕ) → i < length events → IsBehindAll (DependsOn S events) (ticks_at ticks S events) (step_delay ticks S events) (finish_at rows.finishes) i
   behind-all i within =
       record {
         later = λ p d. omega (arith, (noted.row i within).finish, (noted.row i within).latest p d);
@@ -35,7 +36,7 @@ module _ (ticks : Ticks) (S : State) (events : List Event) (rows : Rows) (noted 
       record {
         one_each = noted.finishes;
         longest =
-            λ i within. finishes (IsOwnBefore S events) (IsSender S events) (length events) (ticks_at ticks S events) (finish_in rows) (before_in rows)
+            λ i within. finishes (IsOwnBefore S events) (IsSender S events) (length events) (ticks_at ticks S events) (step_delay ticks S events) (finish_in rows) (before_in rows)
             (rows-of ticks S events rows noted) i within;
         behind = behind-all;
       }

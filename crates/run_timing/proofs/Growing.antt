@@ -3,9 +3,11 @@ use Rattle.std.proofs.Common.{◌≡◌, ◌⊎◌, inl, inr, ℕ, ◌+◌, ◌<
 use Rattle.std.proofs.lemmas.List.{take_all}
 use Rattle.dn_base.specs.declared.ids.Shape.{Shape}
 use Rattle.message_net.specs.declared.actor.Actor.{Actor}
+use Rattle.message_net.specs.declared.actor.MailId.{MailId}
 use Rattle.message_net.specs.declared.event.Event.{Event}
+use Rattle.message_net.specs.declared.event.Event.TheVariants.{Handle}
 use Rattle.message_net.specs.declared.event.EventKind.{EventKind}
-use Rattle.message_net.specs.Mail.{actor_index}
+use Rattle.message_net.specs.Mail.{has_actor, actor_index}
 use Rattle.message_net.proofs.MailLemmas.{actor_index-within}
 use Rattle.registration_protocol.specs.Node.{Setting}
 use Rattle.machine_rules.specs.State.{State, initial_state}
@@ -14,31 +16,35 @@ use Rattle.machine_rules.specs.Runs.{after, IsRun}
 use Rattle.machine_rules.specs.Sound.{IsReady}
 use Rattle.dn_machine.specs.Actors.{actor_in}
 use Rattle.run_timing.specs.declared.rows.Rows.{Rows}
+use Rattle.run_timing.specs.declared.rows.Start.{Start}
 use Rattle.run_timing.specs.declared.ticks.Ticks.{Ticks}
 use Rattle.run_timing.specs.Depends.{state_at, actor_at, kind_at, IsOwnBefore, IsSender}
 use Rattle.run_timing.specs.Noted.{AreRowsOf}
-use Rattle.run_timing.specs.Rows.{finish_in, later, with_timing_row, AreNoted}
+use Rattle.run_timing.specs.Rows.{finish_in, start_after, with_timing_row, AreNoted}
+use Rattle.run_timing.specs.Steps.{step_delay}
 use Rattle.run_timing.specs.Ticks.{ticks_at}
 use Rattle.run_timing.specs.Ticks.{AreWithinLimits, ticks_of}
-use Rattle.run_timing.specs.Tracks.{last_at, senders_at, noted_last, noted_senders, sender_in}
+use Rattle.run_timing.specs.Tracks.{last_at, senders_at, noted_last, noted_senders, sender_in, handled_delay}
 use Rattle.run_timing.proofs.Moves.{has, place}
 use Rattle.run_timing.proofs.OnRuns.{enabled-at, setting-at, there-at}
-use Rattle.run_timing.proofs.RowLemmas.{later-either}
-use Rattle.run_timing.proofs.Timed.{IsTimed, timed-none, own-choice, mail-choice, actor-here, number-so_far, timed-more}
+use Rattle.run_timing.proofs.RowLemmas.{start-either, start-most}
+use Rattle.run_timing.proofs.Timed.{IsTimed, timed-none, own-choice, mail-choice, sender-there, actor-here, number-so_far, timed-more}
 
 -- what the tables say of an event of the actor at a place, and what is noted so far, is within bounds
-pub record CanNote (shape : Shape) (last : List (Option ℕ)) (senders : List (List ℕ)) (rows : Rows) (e : Event) (at' : ℕ) : Type 0 where
+pub record CanNote (shape : Shape) (last : List (Option ℕ)) (senders : List (List ℕ)) (rows : Rows) (e : Event) (a : Actor) (at' : ℕ) : Type 0 where
   pub last_within : at' < length last
   pub senders_within : at' < length senders
   pub own : (p : ℕ) → last_at last at' ≡ Some p → p < length rows.finishes
   pub sender : (p : ℕ) → sender_in shape.cores shape.banks senders e ≡ Some p → p < length rows.finishes
-  pub small : (i : ℕ) → i < length rows.finishes → finish_in rows i ≤ 25169664000000
+  pub small : (i : ℕ) → i < length rows.finishes → finish_in rows i ≤ 176187648000000
+  pub there : has_actor shape.cores shape.banks a ≡ true
+  pub from : (id : MailId) → e ≡ Handle id → has_actor shape.cores shape.banks id.sender ≡ true
 
 pub can-note : (ticks : Ticks) (C : Setting) (shape : Shape) (events : List Event) (n : ℕ) (state : State) (made : ℕ) (last : List (Option ℕ)) (senders : List (List ℕ)) (rows : Rows) (e : Event) (a : Actor) (at' : ℕ)
     → C.shape ≡ shape → IsReady C → IsRun (initial_state C) events → length events ≤ 25169664 → IsTimed ticks C events n state made last senders rows → n < length events → slice_get events n ≡ Some e
-    → actor_in state e ≡ Some a → at' ≡ actor_index shape.cores shape.banks a → CanNote shape last senders rows e at'
+    → actor_in state e ≡ Some a → at' ≡ actor_index shape.cores shape.banks a → CanNote shape last senders rows e a at'
 can-note ticks C shape events n state made last senders rows e a at' same ready run few timed within here is stands =
-    subst (CanNote shape last senders rows e) (sym stands) (subst (λ (s : Shape). CanNote s last senders rows e (actor_index s.cores s.banks a)) same own_shape)
+    subst (CanNote shape last senders rows e a) (sym stands) (subst (λ (s : Shape). CanNote s last senders rows e a (actor_index s.cores s.banks a)) same own_shape)
   where
     is-here : actor_in (state_at (initial_state C) events n) e ≡ Some a
     is-here = subst (λ (X : State). actor_in X e ≡ Some a) timed.leads is
@@ -55,7 +61,7 @@ can-note ticks C shape events n state made last senders rows e a at' same ready 
     low : place C a < C.shape.cores + C.shape.banks + 1
     low = actor_index-within C.shape.cores C.shape.banks a there
 
-    own_shape : CanNote C.shape last senders rows e (place C a)
+    own_shape : CanNote C.shape last senders rows e a (place C a)
     own_shape =
         record {
           last_within = omega (arith, low, timed.tables.lasts);
@@ -63,6 +69,8 @@ can-note ticks C shape events n state made last senders rows e a at' same ready 
           own = λ p mine. omega (arith, (own-choice C events n last senders a p timed.tables there now mine).earlier, timed.noted.finishes);
           sender = λ p mail. omega (arith, (mail-choice C events n last senders e p timed.tables timed.have here may mail).earlier, timed.noted.finishes);
           small = λ i below. omega (arith, timed.noted.small i (omega (arith, below, timed.noted.finishes)), below, timed.noted.finishes, within, few);
+          there = there;
+          from = λ id handles. sender-there C events n last senders id timed.tables timed.have (subst (λ (x : Event). enabled (state_at (initial_state C) events n) x ≡ true) handles may);
         }
 
 -- as many mails of an event's actor are noted as it has sent before the event
@@ -77,19 +85,19 @@ mails-noted ticks C shape events n state made last senders rows e a at' same rea
     ∙ (sym (number-so_far C (state_at (initial_state C) events n) a (setting-at C events n)) ∙ ap (λ (X : State). next_number X a) (sym timed.leads)))
 
 pub run-more : (ticks : Ticks) (C : Setting) (shape : Shape) (events : List Event) (n : ℕ) (state new_state : State) (made new_made : ℕ) (last new_last : List (Option ℕ)) (senders new_senders : List (List ℕ)) (rows new_rows : Rows)
-    (e : Event) (a : Actor) (at' count number : ℕ) (before : Option ℕ) (kind : EventKind) → C.shape ≡ shape → IsReady C → IsRun (initial_state C) events
+    (e : Event) (a : Actor) (at' count number delay : ℕ) (start : Start) (kind : EventKind) → C.shape ≡ shape → IsReady C → IsRun (initial_state C) events
     → IsTimed ticks C events n state made last senders rows → slice_get events n ≡ Some e → actor_in state e ≡ Some a → AreWithinLimits ticks → at' ≡ actor_index shape.cores shape.banks a → number ≡ n
-    → before ≡ later (finish_in rows) (last_at last at') (sender_in shape.cores shape.banks senders e) → kind ≡ kind_in state e → next_number state a + count ≡ next_number (next state e) a
-    → new_state ≡ next state e → new_made ≡ made + 1 → new_last ≡ noted_last at' number last → new_senders ≡ noted_senders at' count number senders → new_rows ≡ with_timing_row kind (ticks_of ticks kind) before rows
+    → delay ≡ handled_delay ticks.network shape a e → delay ≤ 6000000 → start ≡ start_after (finish_in rows) delay (last_at last at') (sender_in shape.cores shape.banks senders e) → kind ≡ kind_in state e → next_number state a + count ≡ next_number (next state e) a
+    → new_state ≡ next state e → new_made ≡ made + 1 → new_last ≡ noted_last at' number last → new_senders ≡ noted_senders at' count number senders → new_rows ≡ with_timing_row kind (ticks_of ticks kind) start rows
     → IsTimed ticks C events (n + 1) new_state new_made new_last new_senders new_rows
-run-more ticks C shape events n state new_state made new_made last new_last senders new_senders rows new_rows e a at' count number before kind same ready run timed here is limits stands numbered before_is kind_is counts
+run-more ticks C shape events n state new_state made new_made last new_last senders new_senders rows new_rows e a at' count number delay start kind same ready run timed here is limits stands numbered delay_is soon start_is kind_is counts
     state_is made_is last_is senders_is rows_is =
     subst (λ (x : State). IsTimed ticks C events (n + 1) x new_made new_last new_senders new_rows) (sym state_is)
     (subst (λ (x : ℕ). IsTimed ticks C events (n + 1) (next state e) x new_last new_senders new_rows) (sym made_is)
     (subst (λ (x : List (Option ℕ)). IsTimed ticks C events (n + 1) (next state e) (made + 1) x new_senders new_rows) (sym last_same)
     (subst (λ (x : List (List ℕ)). IsTimed ticks C events (n + 1) (next state e) (made + 1) (noted_last (place C a) n last) x new_rows) (sym senders_same)
     (subst (λ (x : Rows). IsTimed ticks C events (n + 1) (next state e) (made + 1) (noted_last (place C a) n last) (noted_senders (place C a) count n senders) x) (sym rows_same)
-    (timed-more ticks C events n state made last senders rows e a count ready run timed here is counts ((limits (kind_in state e)).1))))))
+    (timed-more ticks C events n state made last senders rows e a count ready run timed here is counts ((limits.events (kind_in state e)).1) (omega (arith, soon, delay_same)))))))
   where
     place_is : at' ≡ place C a
     place_is = stands ∙ ap (λ (s : Shape). actor_index s.cores s.banks a) (sym same)
@@ -100,20 +108,33 @@ run-more ticks C shape events n state new_state made new_made last new_last send
     senders_same : new_senders ≡ noted_senders (place C a) count n senders
     senders_same = senders_is ∙ (ap (λ (x : ℕ). noted_senders x count number senders) place_is ∙ ap (λ (x : ℕ). noted_senders (place C a) count x senders) numbered)
 
-    before_same : before ≡ later (finish_in rows) (last_at last (place C a)) (sender_in C.shape.cores C.shape.banks senders e)
-    before_same =
-        before_is ∙ (ap (λ (x : ℕ). later (finish_in rows) (last_at last x) (sender_in shape.cores shape.banks senders e)) place_is
-        ∙ ap (λ (s : Shape). later (finish_in rows) (last_at last (place C a)) (sender_in s.cores s.banks senders e)) (sym same))
+    delay_same : delay ≡ handled_delay ticks.network C.shape a e
+    delay_same = delay_is ∙ ap (λ (s : Shape). handled_delay ticks.network s a e) (sym same)
 
-    rows_same : new_rows ≡ with_timing_row (kind_in state e) (ticks_of ticks (kind_in state e)) (later (finish_in rows) (last_at last (place C a)) (sender_in C.shape.cores C.shape.banks senders e)) rows
-    rows_same = rows_is ∙ (ap (λ (k : EventKind). with_timing_row k (ticks_of ticks k) before rows) kind_is ∙ ap (λ (b : Option ℕ). with_timing_row (kind_in state e) (ticks_of ticks (kind_in state e)) b rows) before_same)
+    start_same : start ≡ start_after (finish_in rows) (handled_delay ticks.network C.shape a e) (last_at last (place C a)) (sender_in C.shape.cores C.shape.banks senders e)
+    start_same =
+        start_is ∙ (ap (λ (x : ℕ). start_after (finish_in rows) x (last_at last at') (sender_in shape.cores shape.banks senders e)) delay_same
+        ∙ (ap (λ (x : ℕ). start_after (finish_in rows) (handled_delay ticks.network C.shape a e) (last_at last x) (sender_in shape.cores shape.banks senders e)) place_is
+        ∙ ap (λ (s : Shape). start_after (finish_in rows) (handled_delay ticks.network C.shape a e) (last_at last (place C a)) (sender_in s.cores s.banks senders e)) (sym same)))
 
--- the later of two events is earlier where both are
-pub before-within : (f : ℕ → ℕ) (own sender before : Option ℕ) (n : ℕ) → before ≡ later f own sender → ((p : ℕ) → own ≡ Some p → p < n) → ((p : ℕ) → sender ≡ Some p → p < n) → (p : ℕ) → before ≡ Some p → p < n
-before-within f own sender before n is mine sent p there = by_either (later-either f own sender p (sym is ∙ there)) where
+    rows_same : new_rows
+        ≡ with_timing_row (kind_in state e) (ticks_of ticks (kind_in state e))
+        (start_after (finish_in rows) (handled_delay ticks.network C.shape a e) (last_at last (place C a)) (sender_in C.shape.cores C.shape.banks senders e)) rows
+    rows_same = rows_is ∙ (ap (λ (k : EventKind). with_timing_row k (ticks_of ticks k) start rows) kind_is ∙ ap (λ (b : Start). with_timing_row (kind_in state e) (ticks_of ticks (kind_in state e)) b rows) start_same)
+
+-- an event starts after an earlier one, if after any
+pub start-within : (f : ℕ → ℕ) (delay : ℕ) (own sender : Option ℕ) (start : Start) (n : ℕ) → start ≡ start_after f delay own sender → ((p : ℕ) → own ≡ Some p → p < n)
+    → ((p : ℕ) → sender ≡ Some p → p < n) → (p : ℕ) → start.event ≡ Some p → p < n
+start-within f delay own sender start n is mine sent p there = by_either (start-either f delay own sender p (ap (λ (x : Start). x.event) (sym is) ∙ there)) where
   by_either : (own ≡ Some p) ⊎ (sender ≡ Some p) → p < n
   by_either (inl first) = mine p first
   by_either (inr second) = sent p second
+
+-- it starts at most a delay after all that finished
+pub start-soon : (f : ℕ → ℕ) (delay : ℕ) (own sender : Option ℕ) (start : Start) (n : ℕ) → start ≡ start_after f delay own sender → delay ≤ 6000000 → ((i : ℕ) → i < n → f i ≤ 176187648000000)
+    → ((p : ℕ) → own ≡ Some p → p < n) → ((p : ℕ) → sender ≡ Some p → p < n) → start.tick ≤ 176187654000000
+start-soon f delay own sender start n is low small mine sent =
+    omega (arith, ap (λ (x : Start). x.tick) is, low, start-most f delay 176187648000000 own sender (λ p here. small p (mine p here)) (λ p here. small p (sent p here)))
 
 pub run-none : (ticks : Ticks) (C : Setting) (shape : Shape) (events : List Event) (state : State) (made : ℕ) (last : List (Option ℕ)) (senders : List (List ℕ)) (rows : Rows) → C.shape ≡ shape → state ≡ initial_state C → made ≡ 0
     → last ≡ replicate (shape.cores + shape.banks + 1) None → senders ≡ replicate (shape.cores + shape.banks + 1) [] → rows ≡ record { finishes = []; befores = []; kinds = [] }
@@ -129,7 +150,7 @@ pub run-end : (ticks : Ticks) (C : Setting) (events : List Event) (n : ℕ) (fir
     → IsTimed ticks C events n state made last senders rows → AreRowsOf ticks first events rows
 run-end ticks C events n first state made last senders rows opens all timed =
     subst (λ (S : State). AreRowsOf ticks S events rows) (sym opens)
-    (subst (λ (k : ℕ). AreNoted (IsOwnBefore (initial_state C) events) (IsSender (initial_state C) events) (ticks_at ticks (initial_state C) events) (kind_at (initial_state C) events) k rows) all timed.noted)
+    (subst (λ (k : ℕ). AreNoted (IsOwnBefore (initial_state C) events) (IsSender (initial_state C) events) (ticks_at ticks (initial_state C) events) (step_delay ticks (initial_state C) events) (kind_at (initial_state C) events) k rows) all timed.noted)
 
 pub run-led : (ticks : Ticks) (C : Setting) (events : List Event) (n : ℕ) (first state : State) (made : ℕ) (last : List (Option ℕ)) (senders : List (List ℕ)) (rows : Rows) → first ≡ initial_state C → n ≡ length events
     → IsTimed ticks C events n state made last senders rows → state ≡ after first events

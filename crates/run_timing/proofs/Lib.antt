@@ -14,3 +14,4 @@ pub mod OneTiming
 pub mod ByPlace
 pub mod Finished
 pub mod Delays
+pub mod Shown

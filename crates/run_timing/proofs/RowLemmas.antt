@@ -1,12 +1,13 @@
 -- One more row, and what all rows tell.
-use Rattle.std.proofs.Common.{◌≡◌, ◌⊎◌, inl, inr, ℕ, zero, suc, ◌+◌, ◌*◌, ◌<◌, ◌≤◌, ◌==◌, Bool, true, false, cond, nat_lt, List, [], ◌∷◌, ◌++◌, length, slice_get, Option, Some, None, refl, sym, ap, subst, ◌∙◌, arith}
-use Rattle.std.proofs.lemmas.Bool.{eqb-true}
+use Rattle.std.proofs.Common.{◌≡◌, ◌≢◌, ◌⊎◌, inl, inr, ℕ, zero, suc, ◌+◌, ◌*◌, ◌<◌, ◌≤◌, ◌==◌, Bool, true, false, cond, nat_lt, List, [], ◌∷◌, ◌++◌, length, slice_get, Option, Some, None, refl, sym, ap, subst, ◌∙◌, arith}
+use Rattle.std.proofs.lemmas.Bool.{eqb-true, eqb-false}
 use Rattle.std.proofs.lemmas.Bool.Decides.{nat_tests}
 use Rattle.std.proofs.lemmas.List.{get_or_append_left, get_or_push, length_push}
 use Rattle.std.proofs.lemmas.Option.{none-some, same_Some}
 use Rattle.message_net.specs.declared.event.EventKind.{EventKind}
 use Rattle.run_timing.specs.declared.rows.Rows.{Rows}
-use Rattle.run_timing.specs.Rows.{finish_in, before_in, behind, later, with_timing_row, IsTimingRow, AreNoted}
+use Rattle.run_timing.specs.declared.rows.Start.{Start}
+use Rattle.run_timing.specs.Rows.{finish_in, before_in, behind, start_after, with_timing_row, reach_of, IsTimingRow, AreNoted}
 
 -- ---- the row of an event, from what it depends on
 
@@ -17,9 +18,19 @@ pub record IsChoice (Own Sender : ℕ → ℕ → Type 0) (i : ℕ) (own sender 
   pub sender_is : (p : ℕ) → sender ≡ Some p → Sender p i
   pub sender_known : (p : ℕ) → Sender p i → sender ≡ Some p
 
-pub choice-row : (Own Sender : ℕ → ℕ → Type 0) (ticks f : ℕ → ℕ) (i : ℕ) (own sender : Option ℕ) → IsChoice Own Sender i own sender → f i ≡ ticks i + behind f (later f own sender)
-    → IsTimingRow Own Sender ticks f (later f own sender) i
-choice-row Own Sender ticks f i None None is finish =
+-- the later of two that let a number start
+abbrev chosen : (ℕ → ℕ) → ℕ → ℕ → ℕ → Bool → Start
+chosen f delay o s t = cond t (record { event = Some s; tick = f s + delay }) (record { event = Some o; tick = f o })
+
+-- when each of them lets number i start: the event before it of its own actor when it finished, and the sender of its mail when that
+-- arrives
+pub record IsReach (f reach : ℕ → ℕ) (delay : ℕ) (own sender : Option ℕ) : Type 0 where
+  pub of_sender : (s : ℕ) → sender ≡ Some s → reach s ≡ f s + delay
+  pub of_own : (o : ℕ) → own ≡ Some o → sender ≢ Some o → reach o ≡ f o
+
+pub choice-row : (Own Sender : ℕ → ℕ → Type 0) (ticks f reach : ℕ → ℕ) (delay i : ℕ) (own sender : Option ℕ) → IsChoice Own Sender i own sender → IsReach f reach delay own sender
+    → f i ≡ ticks i + (start_after f delay own sender).tick → IsTimingRow Own Sender ticks f reach (start_after f delay own sender).event i
+choice-row Own Sender ticks f reach delay i None None is reached finish =
     record {
       finish = finish;
       depends = λ p before. absurd (none-some p before);
@@ -30,66 +41,94 @@ choice-row Own Sender ticks f i None None is finish =
     nothing : (p : ℕ) → Own p i ⊎ Sender p i → ⊥
     nothing p (inl mine) = none-some p (is.own_known p mine)
     nothing p (inr sent) = none-some p (is.sender_known p sent)
-choice-row Own Sender ticks f i None (Some s) is finish =
+choice-row Own Sender ticks f reach delay i None (Some s) is reached finish =
     record {
-      finish = finish;
+      finish = omega (arith, finish, reached.of_sender s refl);
       depends = λ p before. inr (is.sender_is p before);
       latest = λ p d. low p d;
       own = λ o t mine sent same. absurd (none-some o (is.own_known o mine));
     }
   where
-    low : (p : ℕ) → Own p i ⊎ Sender p i → f p ≤ f s
+    low : (p : ℕ) → Own p i ⊎ Sender p i → reach p ≤ reach s
     low p (inl mine) = absurd (none-some p (is.own_known p mine))
     low p (inr sent) = let same : s ≡ p = same_Some s p (is.sender_known p sent) in rw same (omega arith)
-choice-row Own Sender ticks f i (Some o) None is finish =
+choice-row Own Sender ticks f reach delay i (Some o) None is reached finish =
     record {
-      finish = finish;
+      finish = omega (arith, finish, reached.of_own o refl (none-some o));
       depends = λ p before. inl (is.own_is p before);
       latest = λ p d. low p d;
       own = λ p s mine sent same. absurd (none-some s (is.sender_known s sent));
     }
   where
-    low : (p : ℕ) → Own p i ⊎ Sender p i → f p ≤ f o
+    low : (p : ℕ) → Own p i ⊎ Sender p i → reach p ≤ reach o
     low p (inl mine) = let same : o ≡ p = same_Some o p (is.own_known p mine) in rw same (omega arith)
     low p (inr sent) = absurd (none-some p (is.sender_known p sent))
-choice-row Own Sender ticks f i (Some o) (Some s) is finish = by_test (nat_lt (f o) (f s)) refl finish where
-  by_test : (t : Bool) → nat_lt (f o) (f s) ≡ t → f i ≡ ticks i + behind f (cond t (Some s) (Some o)) → IsTimingRow Own Sender ticks f (cond t (Some s) (Some o)) i
+choice-row Own Sender ticks f reach delay i (Some o) (Some s) is reached finish = by_test (nat_lt (f o) (f s + delay)) refl finish where
+  arrives : reach s ≡ f s + delay
+  arrives = reached.of_sender s refl
+
+  -- the own actor's event lets it start when it finished, or has sent its mail
+  free : (t : Bool) → (o == s) ≡ t → (reach o ≡ f o) ⊎ (o ≡ s)
+  free true e = inr (eqb-true o s e)
+  free false e = inl (reached.of_own o refl (λ is_sender. eqb-false o s e (sym (same_Some s o is_sender))))
+
+  own-is : (p : ℕ) → Own p i → o ≡ p
+  own-is p mine = same_Some o p (is.own_known p mine)
+
+  sender-is : (p : ℕ) → Sender p i → s ≡ p
+  sender-is p sent = same_Some s p (is.sender_known p sent)
+
+  by_test : (t : Bool) → nat_lt (f o) (f s + delay) ≡ t → f i ≡ ticks i + (chosen f delay o s t).tick
+      → IsTimingRow Own Sender ticks f reach (chosen f delay o s t).event i
   by_test true e total =
       record {
-        finish = total;
+        finish = omega (arith, total, arrives);
         depends = λ p before. inr (is.sender_is p before);
         latest = λ p d. low p d;
-        own = λ p q mine sent same. absurd (unlike p q mine sent same);
+        own = λ p q mine sent same. one p q mine sent same (free (o == s) refl);
       }
     where
-      less : f o < f s
+      less : f o < f s + delay
       less = grind (arith, nat_tests, e)
 
-      low : (p : ℕ) → Own p i ⊎ Sender p i → f p ≤ f s
-      low p (inl mine) = let same : o ≡ p = same_Some o p (is.own_known p mine) in rw (← same) (omega (arith, less))
-      low p (inr sent) = let same : s ≡ p = same_Some s p (is.sender_known p sent) in rw same (omega arith)
+      own-low : (reach o ≡ f o) ⊎ (o ≡ s) → reach o ≤ reach s
+      own-low (inl finished) = omega (arith, finished, less, arrives)
+      own-low (inr same) = omega (arith, ap reach same)
 
-      unlike : (p q : ℕ) → Own p i → Sender q i → f p ≡ f q → ⊥
-      unlike p q mine sent same =
-          let first : o ≡ p = same_Some o p (is.own_known p mine) in
-          let second : s ≡ q = same_Some s q (is.sender_known q sent) in
-          omega (arith, less, ap f first, ap f second, same)
+      low : (p : ℕ) → Own p i ⊎ Sender p i → reach p ≤ reach s
+      low p (inl mine) = omega (arith, ap reach (own-is p mine), own-low (free (o == s) refl))
+      low p (inr sent) = omega (arith, ap reach (sender-is p sent))
+
+      one : (p q : ℕ) → Own p i → Sender q i → reach p ≡ reach q → (reach o ≡ f o) ⊎ (o ≡ s) → Some s ≡ Some p
+      one p q mine sent same (inl finished) = absurd (omega (arith, less, arrives, finished, ap reach (own-is p mine), ap reach (sender-is q sent), same))
+      one p q mine sent same (inr alike) = ap (λ (x : ℕ). Some x) (sym alike ∙ own-is p mine)
   by_test false e total =
       record {
-        finish = total;
+        finish = omega (arith, total, at-own);
         depends = λ p before. inl (is.own_is p before);
         latest = λ p d. low p d;
         own = λ p q mine sent same. is.own_known p mine;
       }
     where
-      low : (p : ℕ) → Own p i ⊎ Sender p i → f p ≤ f o
-      low p (inl mine) = let same : o ≡ p = same_Some o p (is.own_known p mine) in rw same (omega arith)
-      low p (inr sent) = let same : s ≡ p = same_Some s p (is.sender_known p sent) in rw (← same) (grind (arith, nat_tests, e))
+      no_less : f s + delay ≤ f o
+      no_less = grind (arith, nat_tests, e)
+
+      -- if it has sent the mail too, that takes no time
+      at-own-by : (reach o ≡ f o) ⊎ (o ≡ s) → reach o ≡ f o
+      at-own-by (inl finished) = finished
+      at-own-by (inr same) = omega (arith, no_less, arrives, ap f same, ap reach same)
+
+      at-own : reach o ≡ f o
+      at-own = at-own-by (free (o == s) refl)
+
+      low : (p : ℕ) → Own p i ⊎ Sender p i → reach p ≤ reach o
+      low p (inl mine) = omega (arith, ap reach (own-is p mine))
+      low p (inr sent) = omega (arith, ap reach (sender-is p sent), no_less, arrives, at-own)
 
 -- a row tells the same of finishes that are the same up to it
-row-same : (Own Sender : ℕ → ℕ → Type 0) (ticks f g : ℕ → ℕ) (before : Option ℕ) (i : ℕ) → IsTimingRow Own Sender ticks f before i → ((p : ℕ) → Own p i ⊎ Sender p i → f p ≡ g p) → f i ≡ g i
-    → IsTimingRow Own Sender ticks g before i
-row-same Own Sender ticks f g before i row same here =
+row-same : (Own Sender : ℕ → ℕ → Type 0) (ticks f g reach other : ℕ → ℕ) (before : Option ℕ) (i : ℕ) → IsTimingRow Own Sender ticks f reach before i
+    → ((p : ℕ) → Own p i ⊎ Sender p i → reach p ≡ other p) → f i ≡ g i → IsTimingRow Own Sender ticks g other before i
+row-same Own Sender ticks f g reach other before i row same here =
     record {
       finish = sym here ∙ (row.finish ∙ ap (λ (x : ℕ). ticks i + x) (by_before before row.depends));
       depends = row.depends;
@@ -97,26 +136,39 @@ row-same Own Sender ticks f g before i row same here =
       own = λ o s mine sent alike. row.own o s mine sent (same o (inl mine) ∙ (alike ∙ sym (same s (inr sent))));
     }
   where
-    by_before : (b : Option ℕ) → ((p : ℕ) → b ≡ Some p → Own p i ⊎ Sender p i) → behind f b ≡ behind g b
+    by_before : (b : Option ℕ) → ((p : ℕ) → b ≡ Some p → Own p i ⊎ Sender p i) → behind reach b ≡ behind other b
     by_before None depends = refl
     by_before (Some p) depends = same p (depends p refl)
 
--- the later of two events is one of them, and the same by finishes that are the same of them
-pub later-either : (f : ℕ → ℕ) (own sender : Option ℕ) (p : ℕ) → later f own sender ≡ Some p → (own ≡ Some p) ⊎ (sender ≡ Some p)
-later-either f None sender p is = inr is
-later-either f (Some o) None p is = inl is
-later-either f (Some o) (Some s) p is = by_test (nat_lt (f o) (f s)) is where
-  by_test : (t : Bool) → cond t (Some s) (Some o) ≡ Some p → (Some o ≡ Some p) ⊎ (Some s ≡ Some p)
+-- the event after which one starts is one of the two
+pub start-either : (f : ℕ → ℕ) (delay : ℕ) (own sender : Option ℕ) (p : ℕ) → (start_after f delay own sender).event ≡ Some p → (own ≡ Some p) ⊎ (sender ≡ Some p)
+start-either f delay None None p is = inl is
+start-either f delay None (Some s) p is = inr is
+start-either f delay (Some o) None p is = inl is
+start-either f delay (Some o) (Some s) p is = by_test (nat_lt (f o) (f s + delay)) is where
+  by_test : (t : Bool) → (chosen f delay o s t).event ≡ Some p → (Some o ≡ Some p) ⊎ (Some s ≡ Some p)
   by_test true is = inr is
   by_test false is = inl is
 
-later-same : (f g : ℕ → ℕ) (own sender : Option ℕ) → ((p : ℕ) → own ≡ Some p → f p ≡ g p) → ((p : ℕ) → sender ≡ Some p → f p ≡ g p) → later f own sender ≡ later g own sender
-later-same f g None sender mine sent = refl
-later-same f g (Some o) None mine sent = refl
-later-same f g (Some o) (Some s) mine sent =
+-- one starts alike by finishes that are the same of the two
+pub start-same : (f g : ℕ → ℕ) (delay : ℕ) (own sender : Option ℕ) → ((p : ℕ) → own ≡ Some p → f p ≡ g p) → ((p : ℕ) → sender ≡ Some p → f p ≡ g p) → start_after f delay own sender ≡ start_after g delay own sender
+start-same f g delay None None mine sent = refl
+start-same f g delay None (Some s) mine sent = let second : f s ≡ g s = sent s refl in rw second refl
+start-same f g delay (Some o) None mine sent = let first : f o ≡ g o = mine o refl in rw first refl
+start-same f g delay (Some o) (Some s) mine sent =
     let first : f o ≡ g o = mine o refl in
     let second : f s ≡ g s = sent s refl in
     rw (first, second) refl
+
+-- one starts at most the delay after all that finished
+pub start-most : (f : ℕ → ℕ) (delay most : ℕ) (own sender : Option ℕ) → ((p : ℕ) → own ≡ Some p → f p ≤ most) → ((p : ℕ) → sender ≡ Some p → f p ≤ most) → (start_after f delay own sender).tick ≤ most + delay
+start-most f delay most None None mine sent = omega arith
+start-most f delay most None (Some s) mine sent = omega (arith, sent s refl)
+start-most f delay most (Some o) None mine sent = omega (arith, mine o refl)
+start-most f delay most (Some o) (Some s) mine sent = by_test (nat_lt (f o) (f s + delay)) where
+  by_test : (t : Bool) → (chosen f delay o s t).tick ≤ most + delay
+  by_test true = omega (arith, sent s refl)
+  by_test false = omega (arith, mine o refl)
 
 -- the items of a list with one more at its end
 get-front : {X : Type 0} (xs ys : List X) (i : ℕ) → i < length xs → slice_get (xs ++ ys) i ≡ slice_get xs i
@@ -131,8 +183,8 @@ get-end (y ∷ xs) x (suc n) long = get-end xs x n (omega (arith, long))
 
 -- ---- rows, one after the other
 
-pub none-noted : (Own Sender : ℕ → ℕ → Type 0) (ticks : ℕ → ℕ) (kinds : ℕ → Option EventKind) → AreNoted Own Sender ticks kinds 0 (record { finishes = []; befores = []; kinds = [] })
-none-noted Own Sender ticks kinds =
+pub none-noted : (Own Sender : ℕ → ℕ → Type 0) (ticks : ℕ → ℕ) (step : ℕ → ℕ → ℕ) (kinds : ℕ → Option EventKind) → AreNoted Own Sender ticks step kinds 0 (record { finishes = []; befores = []; kinds = [] })
+none-noted Own Sender ticks step kinds =
     record {
       finishes = refl;
       befores = refl;
@@ -142,13 +194,18 @@ none-noted Own Sender ticks kinds =
       small = λ i below. absurd (omega (arith, below));
     }
 
-pub noted-more : (Own Sender : ℕ → ℕ → Type 0) (ticks : ℕ → ℕ) (kinds : ℕ → Option EventKind) (n : ℕ) (rows : Rows) (own sender : Option ℕ) (kind : EventKind) (count : ℕ)
-    → ((p i : ℕ) → Own p i ⊎ Sender p i → p < i) → AreNoted Own Sender ticks kinds n rows → IsChoice Own Sender n own sender → kinds n ≡ Some kind → ticks n ≡ count → count ≤ 1000000
-    → AreNoted Own Sender ticks kinds (n + 1) (with_timing_row kind count (later (finish_in rows) own sender) rows)
-noted-more Own Sender ticks kinds n rows own sender kind count earlier noted choice kind_is ticks_is low =
+-- the steps to number n: from the sender of its mail the mail's delay, and none from the event before it of its own actor
+pub record AreSteps (step : ℕ → ℕ → ℕ) (n delay : ℕ) (own sender : Option ℕ) : Type 0 where
+  pub of_sender : (s : ℕ) → sender ≡ Some s → step s n ≡ delay
+  pub of_own : (o : ℕ) → own ≡ Some o → sender ≢ Some o → step o n ≡ 0
+
+pub noted-more : (Own Sender : ℕ → ℕ → Type 0) (ticks : ℕ → ℕ) (step : ℕ → ℕ → ℕ) (kinds : ℕ → Option EventKind) (n : ℕ) (rows : Rows) (own sender : Option ℕ) (delay : ℕ) (kind : EventKind) (count : ℕ)
+    → ((p i : ℕ) → Own p i ⊎ Sender p i → p < i) → AreNoted Own Sender ticks step kinds n rows → IsChoice Own Sender n own sender → AreSteps step n delay own sender → kinds n ≡ Some kind → ticks n ≡ count
+    → count ≤ 1000000 → delay ≤ 6000000 → AreNoted Own Sender ticks step kinds (n + 1) (with_timing_row kind count (start_after (finish_in rows) delay own sender) rows)
+noted-more Own Sender ticks step kinds n rows own sender delay kind count earlier noted choice steps kind_is ticks_is low soon =
     record {
-      finishes = omega (arith, length_push rows.finishes (behind f before + count), noted.finishes);
-      befores = omega (arith, length_push rows.befores before, noted.befores);
+      finishes = omega (arith, length_push rows.finishes (start.tick + count), noted.finishes);
+      befores = omega (arith, length_push rows.befores start.event, noted.befores);
       kinds = omega (arith, length_push rows.kinds kind, noted.kinds);
       row = λ i below. row i below (i == n) refl;
       kind = λ i below. kinds_are i below (i == n) refl;
@@ -158,23 +215,26 @@ noted-more Own Sender ticks kinds n rows own sender kind count earlier noted cho
     f : ℕ → ℕ
     f = finish_in rows
 
-    before : Option ℕ
-    before = later f own sender
+    start : Start
+    start = start_after f delay own sender
 
     all : Rows
-    all = with_timing_row kind count before rows
+    all = with_timing_row kind count start rows
 
-    finish-old : (i : ℕ) → i < n → finish_in all i ≡ f i
-    finish-old i below = get_or_append_left rows.finishes ((behind f before + count) ∷ []) 0 i (omega (arith, below, noted.finishes))
+    g : ℕ → ℕ
+    g = finish_in all
 
-    finish-new : finish_in all n ≡ behind f before + count
-    finish-new = get_or_push rows.finishes (behind f before + count) 0 n noted.finishes
+    finish-old : (i : ℕ) → i < n → g i ≡ f i
+    finish-old i below = get_or_append_left rows.finishes ((start.tick + count) ∷ []) 0 i (omega (arith, below, noted.finishes))
+
+    finish-new : g n ≡ start.tick + count
+    finish-new = get_or_push rows.finishes (start.tick + count) 0 n noted.finishes
 
     before-old : (i : ℕ) → i < n → before_in all i ≡ before_in rows i
-    before-old i below = get_or_append_left rows.befores (before ∷ []) None i (omega (arith, below, noted.befores))
+    before-old i below = get_or_append_left rows.befores (start.event ∷ []) None i (omega (arith, below, noted.befores))
 
-    before-new : before_in all n ≡ before
-    before-new = get_or_push rows.befores before None n noted.befores
+    before-new : before_in all n ≡ start.event
+    before-new = get_or_push rows.befores start.event None n noted.befores
 
     earlier-own : (p : ℕ) → own ≡ Some p → p < n
     earlier-own p is = earlier p n (inl (choice.own_is p is))
@@ -182,34 +242,32 @@ noted-more Own Sender ticks kinds n rows own sender kind count earlier noted cho
     earlier-sender : (p : ℕ) → sender ≡ Some p → p < n
     earlier-sender p is = earlier p n (inr (choice.sender_is p is))
 
-    before-earlier : (p : ℕ) → before ≡ Some p → p < n
-    before-earlier p is = by_either (later-either f own sender p is) where
-      by_either : (own ≡ Some p) ⊎ (sender ≡ Some p) → p < n
-      by_either (inl mine) = earlier-own p mine
-      by_either (inr sent) = earlier-sender p sent
+    start-now : start ≡ start_after g delay own sender
+    start-now = start-same f g delay own sender (λ p is. sym (finish-old p (earlier-own p is))) (λ p is. sym (finish-old p (earlier-sender p is)))
 
-    behind-same : (b : Option ℕ) → ((p : ℕ) → b ≡ Some p → p < n) → behind f b ≡ behind (finish_in all) b
-    behind-same None below = refl
-    behind-same (Some p) below = sym (finish-old p (below p refl))
+    reached : IsReach g (reach_of g step n) delay own sender
+    reached =
+        record {
+          of_sender = λ s is. omega (arith, steps.of_sender s is);
+          of_own = λ o is other. omega (arith, steps.of_own o is other);
+        }
 
-    before-same : before ≡ later (finish_in all) own sender
-    before-same = later-same f (finish_in all) own sender (λ p is. sym (finish-old p (earlier-own p is))) (λ p is. sym (finish-old p (earlier-sender p is)))
-
-    new_row : IsTimingRow Own Sender ticks (finish_in all) before n
+    new_row : IsTimingRow Own Sender ticks g (reach_of g step n) start.event n
     new_row =
-        let total : finish_in all n ≡ ticks n + behind (finish_in all) before = omega (arith, finish-new, behind-same before before-earlier, ticks_is) in
-        subst (λ (b : Option ℕ). IsTimingRow Own Sender ticks (finish_in all) b n) (sym before-same)
-        (choice-row Own Sender ticks (finish_in all) n own sender choice (subst (λ (b : Option ℕ). finish_in all n ≡ ticks n + behind (finish_in all) b) before-same total))
+        let total : g n ≡ ticks n + (start_after g delay own sender).tick = omega (arith, finish-new, ap (λ (x : Start). x.tick) start-now, ticks_is) in
+        subst (λ (x : Start). IsTimingRow Own Sender ticks g (reach_of g step n) x.event n) (sym start-now)
+        (choice-row Own Sender ticks g (reach_of g step n) delay n own sender choice reached total)
 
-    row : (i : ℕ) → i < n + 1 → (t : Bool) → (i == n) ≡ t → IsTimingRow Own Sender ticks (finish_in all) (before_in all i) i
+    row : (i : ℕ) → i < n + 1 → (t : Bool) → (i == n) ≡ t → IsTimingRow Own Sender ticks g (reach_of g step i) (before_in all i) i
     row i below true e =
         let same : n ≡ i = sym (eqb-true i n e) in
-        subst (λ (x : ℕ). IsTimingRow Own Sender ticks (finish_in all) (before_in all x) x) same
-        (subst (λ (b : Option ℕ). IsTimingRow Own Sender ticks (finish_in all) b n) (sym before-new) new_row)
+        subst (λ (x : ℕ). IsTimingRow Own Sender ticks g (reach_of g step x) (before_in all x) x) same
+        (subst (λ (b : Option ℕ). IsTimingRow Own Sender ticks g (reach_of g step n) b n) (sym before-new) new_row)
     row i below false e =
         let old : i < n = grind (arith, nat_tests, below, e) in
-        subst (λ (b : Option ℕ). IsTimingRow Own Sender ticks (finish_in all) b i) (sym (before-old i old))
-        (row-same Own Sender ticks f (finish_in all) (before_in rows i) i (noted.row i old) (λ p d. sym (finish-old p (omega (arith, earlier p i d, old)))) (sym (finish-old i old)))
+        subst (λ (b : Option ℕ). IsTimingRow Own Sender ticks g (reach_of g step i) b i) (sym (before-old i old))
+        (row-same Own Sender ticks f g (reach_of f step i) (reach_of g step i) (before_in rows i) i (noted.row i old)
+        (λ p d. omega (arith, finish-old p (omega (arith, earlier p i d, old)))) (sym (finish-old i old)))
 
     kinds_are : (i : ℕ) → i < n + 1 → (t : Bool) → (i == n) ≡ t → slice_get all.kinds i ≡ kinds i
     kinds_are i below true e =
@@ -219,14 +277,15 @@ noted-more Own Sender ticks kinds n rows own sender kind count earlier noted cho
         let old : i < n = grind (arith, nat_tests, below, e) in
         get-front rows.kinds (kind ∷ []) i (omega (arith, old, noted.kinds)) ∙ noted.kind i old
 
-    low-behind : (b : Option ℕ) → ((p : ℕ) → b ≡ Some p → p < n) → behind f b ≤ 1000000 * n
-    low-behind None below = omega arith
-    low-behind (Some p) below = omega (arith, noted.small p (below p refl), below p refl)
+    low-start : start.tick ≤ 7000000 * n + delay
+    low-start =
+        start-most f delay (7000000 * n) own sender (λ p is. omega (arith, noted.small p (earlier-own p is), earlier-own p is))
+        (λ p is. omega (arith, noted.small p (earlier-sender p is), earlier-sender p is))
 
-    small : (i : ℕ) → i < n + 1 → (t : Bool) → (i == n) ≡ t → finish_in all i ≤ 1000000 * (i + 1)
+    small : (i : ℕ) → i < n + 1 → (t : Bool) → (i == n) ≡ t → g i ≤ 7000000 * (i + 1)
     small i below true e =
         let same : n ≡ i = sym (eqb-true i n e) in
-        subst (λ (x : ℕ). finish_in all x ≤ 1000000 * (x + 1)) same (omega (arith, finish-new, low-behind before before-earlier, low))
+        subst (λ (x : ℕ). g x ≤ 7000000 * (x + 1)) same (omega (arith, finish-new, low-start, low, soon))
     small i below false e =
         let old : i < n = grind (arith, nat_tests, below, e) in
         omega (arith, finish-old i old, noted.small i old)

@@ -1,5 +1,6 @@
 -- What is noted of the events of a run so far is right, and one more event.
-use Rattle.std.proofs.Common.{◌≡◌, inl, inr, ℕ, zero, suc, ◌+◌, ◌<◌, ◌≤◌, Bool, true, false, nat_lt, List, [], length, replicate, get_or, slice_get, slice_index, Option, Some, None, refl, sym, ap, subst, ◌∙◌, arith}
+use Rattle.std.proofs.Common.{◌≡◌, ◌≢◌, inl, inr, ℕ, zero, suc, ◌+◌, ◌<◌, ◌≤◌, ◌==◌, ◌&&◌, Bool, true, false, cond, nat_lt, List, [], length, replicate, get_or, slice_get, slice_index, Option, Some, None, refl, sym, ap, subst, ◌∙◌, arith}
+use Rattle.std.proofs.lemmas.Bool.{eqb-true}
 use Rattle.std.proofs.lemmas.Bool.Decides.{nat_tests}
 use Rattle.std.proofs.lemmas.List.{length-replicate}
 use Rattle.std.proofs.lemmas.Option.{none-some, same_Some}
@@ -14,16 +15,19 @@ use Rattle.machine_rules.specs.State.{State, initial_state}
 use Rattle.machine_rules.specs.Next.{next, enabled, kind_in, next_number}
 use Rattle.machine_rules.specs.Runs.{IsRun}
 use Rattle.machine_rules.specs.Sound.{IsReady}
+use Rattle.machine_rules.proofs.OpenedFacts.{opened-setting}
 use Rattle.dn_machine.specs.Actors.{actor_in}
 use Rattle.run_timing.specs.declared.rows.Rows.{Rows}
 use Rattle.run_timing.specs.declared.ticks.Ticks.{Ticks}
 use Rattle.run_timing.specs.Depends.{state_at, actor_of_event, actor_at, kind_if_any, kind_at, IsOwnBefore, Sends, IsSender, DependsOn}
-use Rattle.run_timing.specs.Rows.{finish_in, later, with_timing_row, AreNoted}
+use Rattle.run_timing.specs.Network.{delay}
+use Rattle.run_timing.specs.Rows.{finish_in, start_after, with_timing_row, AreNoted}
+use Rattle.run_timing.specs.Steps.{is_sent, delay_if_any, delay_from, step_delay}
 use Rattle.run_timing.specs.Ticks.{ticks_of, ticks_with, ticks_at}
-use Rattle.run_timing.specs.Tracks.{last_at, noted_last, noted_senders, sender_in}
+use Rattle.run_timing.specs.Tracks.{last_at, noted_last, noted_senders, sender_in, handled_delay}
 use Rattle.run_timing.proofs.Moves.{has, place, sent_so_far, IsMove}
 use Rattle.run_timing.proofs.OnRuns.{next-at, enabled-at, setting-at, there-at, move-at}
-use Rattle.run_timing.proofs.RowLemmas.{IsChoice, none-noted, noted-more}
+use Rattle.run_timing.proofs.RowLemmas.{IsChoice, AreSteps, none-noted, noted-more}
 use Rattle.run_timing.proofs.Tracked.{IsLastOf, IsTurn, AreTables, tables-more}
 
 -- ---- the tables of a run
@@ -128,6 +132,52 @@ mail-known C events n last senders e p tables here is =
     let same : Handle is.id ≡ e = same_Some (Handle is.id) e (sym is.handled ∙ here) in
     subst (λ (x : Event). sender_in C.shape.cores C.shape.banks senders x ≡ Some p) same (tables.sender_known p is.id is.earlier is.sent).1
 
+-- ---- how long the steps to an event take
+
+sent-test : (S : State) (events : List Event) (i : ℕ) (id : MailId) → Sends S events i id → is_sent S events i id ≡ true
+sent-test S events i id sent =
+    let absent : (count_of id (state_at S events i).mails == 0) ≡ true = grind (arith, nat_tests, sent.absent) in
+    let in_flight : nat_lt 0 (count_of id (state_at S events (i + 1)).mails) ≡ true = grind (arith, nat_tests, sent.in_flight) in
+    rw (absent, in_flight) refl
+
+sent-is : (S : State) (events : List Event) (i : ℕ) (id : MailId) → is_sent S events i id ≡ true → Sends S events i id
+sent-is S events i id is = by_tests (count_of id (state_at S events i).mails == 0) (nat_lt 0 (count_of id (state_at S events (i + 1)).mails)) refl refl is where
+  by_tests : (s t : Bool) → (count_of id (state_at S events i).mails == 0) ≡ s → nat_lt 0 (count_of id (state_at S events (i + 1)).mails) ≡ t → (s && t) ≡ true → Sends S events i id
+  by_tests true true e f both = record { absent = eqb-true (count_of id (state_at S events i).mails) 0 e; in_flight = grind (arith, nat_tests, f) }
+  by_tests true false e f both = absurd (cc)
+  by_tests false t e f both = absurd (cc)
+
+-- the step from the sender of an event's mail takes the mail's delay
+sender-step : (ticks : Ticks) (C : Setting) (events : List Event) (n : ℕ) (e : Event) (a : Actor) (p : ℕ) → slice_get events n ≡ Some e → actor_at (initial_state C) events n ≡ Some a
+    → IsSender (initial_state C) events p n → step_delay ticks (initial_state C) events p n ≡ handled_delay ticks.network C.shape a e
+sender-step ticks C events n e a p here now is =
+    subst (λ (x : Event). step_delay ticks (initial_state C) events p n ≡ handled_delay ticks.network C.shape a x) (same_Some (Handle is.id) e (sym is.handled ∙ here))
+    (ap (delay_from ticks (initial_state C) events p n) is.handled
+    ∙ ap (λ (t : Bool). cond t (delay_if_any ticks (initial_state C) is.id (actor_at (initial_state C) events n)) 0) (sent-test (initial_state C) events p is.id is.sent)
+    ∙ ap (delay_if_any ticks (initial_state C) is.id) now
+    ∙ ap (λ (X : Setting). delay ticks.network X.shape is.id.sender a) (opened-setting C))
+
+-- the step from another event takes no time
+other-step : (ticks : Ticks) (C : Setting) (events : List Event) (n : ℕ) (last : List (Option ℕ)) (senders : List (List ℕ)) (e : Event) (p : ℕ) → AreTablesOf C events n last senders
+    → slice_get events n ≡ Some e → p < n → sender_in C.shape.cores C.shape.banks senders e ≢ Some p → step_delay ticks (initial_state C) events p n ≡ 0
+other-step ticks C events n last senders (Instr core) p tables here below other = ap (delay_from ticks (initial_state C) events p n) here
+other-step ticks C events n last senders (Evict core word) p tables here below other = ap (delay_from ticks (initial_state C) events p n) here
+other-step ticks C events n last senders (Arrive core) p tables here below other = ap (delay_from ticks (initial_state C) events p n) here
+other-step ticks C events n last senders (Handle id) p tables here below other =
+    ap (delay_from ticks (initial_state C) events p n) here ∙ by_test (is_sent (initial_state C) events p id) refl
+  where
+    by_test : (t : Bool) → is_sent (initial_state C) events p id ≡ t → cond t (delay_if_any ticks (initial_state C) id (actor_at (initial_state C) events n)) 0 ≡ 0
+    by_test true e = absurd (other (tables.sender_known p id below (sent-is (initial_state C) events p id e)).1)
+    by_test false e = refl
+
+-- a mail that may be handled was sent by an actor of the machine
+pub sender-there : (C : Setting) (events : List Event) (n : ℕ) (last : List (Option ℕ)) (senders : List (List ℕ)) (id : MailId) → AreTablesOf C events n last senders → HaveSenders C events n
+    → enabled (state_at (initial_state C) events n) (Handle id) ≡ true → has C id.sender ≡ true
+unfolding enabled
+sender-there C events n last senders id tables have may =
+    let sent = have id (grind (arith, nat_tests, may)) in
+    (tables.sender_known sent.0 id sent.1 sent.2).0
+
 -- ---- all together
 
 -- before event number n the machine's state, the tables and the rows are those of the events before it
@@ -136,7 +186,7 @@ pub record IsTimed (ticks : Ticks) (C : Setting) (events : List Event) (n : ℕ)
   pub counts : made ≡ n
   pub tables : AreTablesOf C events n last senders
   pub have : HaveSenders C events n
-  pub noted : AreNoted (IsOwnBefore (initial_state C) events) (IsSender (initial_state C) events) (ticks_at ticks (initial_state C) events) (kind_at (initial_state C) events) n rows
+  pub noted : AreNoted (IsOwnBefore (initial_state C) events) (IsSender (initial_state C) events) (ticks_at ticks (initial_state C) events) (step_delay ticks (initial_state C) events) (kind_at (initial_state C) events) n rows
 
 pub timed-none : (ticks : Ticks) (C : Setting) (events : List Event)
     → IsTimed ticks C events 0 (initial_state C) 0 (replicate (C.shape.cores + C.shape.banks + 1) None) (replicate (C.shape.cores + C.shape.banks + 1) []) (record { finishes = []; befores = []; kinds = [] })
@@ -146,7 +196,7 @@ timed-none ticks C events =
       counts = refl;
       tables = no-tables C events;
       have = no-mails C events;
-      noted = none-noted (IsOwnBefore (initial_state C) events) (IsSender (initial_state C) events) (ticks_at ticks (initial_state C) events) (kind_at (initial_state C) events);
+      noted = none-noted (IsOwnBefore (initial_state C) events) (IsSender (initial_state C) events) (ticks_at ticks (initial_state C) events) (step_delay ticks (initial_state C) events) (kind_at (initial_state C) events);
     }
 
 -- what an event depends on comes before it
@@ -199,10 +249,11 @@ at-event ticks C events n state made last senders rows e ready run timed here =
 
 pub timed-more : (ticks : Ticks) (C : Setting) (events : List Event) (n : ℕ) (state : State) (made : ℕ) (last : List (Option ℕ)) (senders : List (List ℕ)) (rows : Rows) (e : Event) (a : Actor) (count : ℕ)
     → IsReady C → IsRun (initial_state C) events → IsTimed ticks C events n state made last senders rows → slice_get events n ≡ Some e → actor_in state e ≡ Some a
-    → next_number state a + count ≡ next_number (next state e) a → ticks_of ticks (kind_in state e) ≤ 1000000
+    → next_number state a + count ≡ next_number (next state e) a → ticks_of ticks (kind_in state e) ≤ 1000000 → handled_delay ticks.network C.shape a e ≤ 6000000
     → IsTimed ticks C events (n + 1) (next state e) (made + 1) (noted_last (place C a) n last) (noted_senders (place C a) count n senders)
-    (with_timing_row (kind_in state e) (ticks_of ticks (kind_in state e)) (later (finish_in rows) (last_at last (place C a)) (sender_in C.shape.cores C.shape.banks senders e)) rows)
-timed-more ticks C events n state made last senders rows e a count ready run timed here is counts low =
+    (with_timing_row (kind_in state e) (ticks_of ticks (kind_in state e))
+    (start_after (finish_in rows) (handled_delay ticks.network C.shape a e) (last_at last (place C a)) (sender_in C.shape.cores C.shape.banks senders e)) rows)
+timed-more ticks C events n state made last senders rows e a count ready run timed here is counts low soon =
     record {
       leads = ap (λ (X : State). next X e) timed.leads ∙ sym (next-at (initial_state C) events n e here);
       counts = omega (arith, timed.counts);
@@ -211,8 +262,9 @@ timed-more ticks C events n state made last senders rows e a count ready run tim
           (turn-of C events n a move) now sent;
       have = mails-more C events n timed.have;
       noted =
-          noted-more (IsOwnBefore (initial_state C) events) (IsSender (initial_state C) events) (ticks_at ticks (initial_state C) events) (kind_at (initial_state C) events) n rows (last_at last (place C a))
-          (sender_in C.shape.cores C.shape.banks senders e) (kind_in state e) (ticks_of ticks (kind_in state e)) (depends-earlier (initial_state C) events) timed.noted choice kind takes low;
+          noted-more (IsOwnBefore (initial_state C) events) (IsSender (initial_state C) events) (ticks_at ticks (initial_state C) events) (step_delay ticks (initial_state C) events) (kind_at (initial_state C) events) n rows
+          (last_at last (place C a)) (sender_in C.shape.cores C.shape.banks senders e) (handled_delay ticks.network C.shape a e) (kind_in state e) (ticks_of ticks (kind_in state e))
+          (depends-earlier (initial_state C) events) timed.noted choice steps kind takes low soon;
     }
   where
     S : State
@@ -259,4 +311,11 @@ timed-more ticks C events n state made last senders rows e a count ready run tim
           own_known = λ p mine. own-known C events n last senders a p timed.tables there now mine;
           sender_is = λ p mail. mail-choice C events n last senders e p timed.tables timed.have here may mail;
           sender_known = λ p mail. mail-known C events n last senders e p timed.tables here mail;
+        }
+
+    steps : AreSteps (step_delay ticks (initial_state C) events) n (handled_delay ticks.network C.shape a e) (last_at last (place C a)) (sender_in C.shape.cores C.shape.banks senders e)
+    steps =
+        record {
+          of_sender = λ p mail. sender-step ticks C events n e a p here now (choice.sender_is p mail);
+          of_own = λ p mine other. other-step ticks C events n last senders e p timed.tables here (choice.own_is p mine).earlier other;
         }

@@ -1,13 +1,13 @@
 -- Links that lead to an event, one by one, and the numbers of their events.
-use Rattle.std.proofs.Common.{◌≡◌, ℕ, zero, suc, ◌+◌, ◌-◌, ◌<◌, ◌≤◌, Bool, true, false, nat_lt, List, [], ◌∷◌, ◌++◌, length, map, reverse, slice_get, Option, Some, None, refl, sym, ap, subst, ◌∙◌, arith}
+use Rattle.std.proofs.Common.{◌≡◌, ℕ, zero, suc, ◌+◌, ◌-◌, ◌<◌, ◌≤◌, Bool, true, false, nat_lt, List, [], ◌∷◌, ◌++◌, length, map, reverse, sum_by, slice_get, Option, Some, None, refl, sym, ap, subst, ◌∙◌, arith}
 use Rattle.std.proofs.lemmas.Bool.Decides.{nat_tests}
 use Rattle.std.proofs.lemmas.List.{reverse-append}
+use Rattle.std.proofs.lemmas.List.Sums.{sum_by-cons}
 use Rattle.std.proofs.lemmas.Option.{none-some, same_Some}
 use Rattle.run_timing.specs.declared.rows.Rows.{Rows}
 use Rattle.run_timing.specs.declared.ticks.Ticks.{Ticks}
 use Rattle.run_timing.specs.declared.timing.Link.{Link}
-use Rattle.run_timing.specs.Rows.{finish_in, before_in, behind, AreInStep, AreSummed, IsLinkIn, IsWay, IsLatest}
-use Rattle.run_timing.specs.Ticks.{ticks_of}
+use Rattle.run_timing.specs.Rows.{finish_in, before_in, behind, ticks_of_link, AreInStep, AreSummed, IsLinkIn, IsWay, IsLatest}
 use Rattle.run_timing.proofs.WayBack.{Leads}
 
 -- how far an event is from the beginning, at the most
@@ -21,26 +21,42 @@ pub way-more : (rows : Rows) (before last : Option ℕ) (links : List Link) (lin
 way-more rows before last links link is way =
     subst (IsWay rows before last) (sym (reverse-append links (link ∷ []))) (is, way)
 
--- the links lead on from an event, or from none, that finishes then
-pub record IsWayFrom (rows : Rows) (next last : Option ℕ) (links : List Link) (then' : ℕ) : Type 0 where
+-- the links lead on from an event, or from none
+pub record IsWayFrom (rows : Rows) (next last : Option ℕ) (links : List Link) : Type 0 where
   pub within : (i : ℕ) → next ≡ Some i → i < length rows.finishes
   pub way : IsWay rows next last (reverse links)
-  pub finish : then' ≡ behind (finish_in rows) next
 
--- from the event before it on with the event's link: that finishes its ticks earlier
-pub way-step : (ticks : Ticks) (rows : Rows) (last next before : Option ℕ) (links more : List Link) (link : Link) (takes : ℕ) → AreInStep rows → AreSummed ticks rows
-    → next ≡ Some link.event → IsWayFrom rows next last links link.finish → slice_get rows.kinds link.event ≡ Some link.kind → takes ≡ ticks_of ticks link.kind
-    → before ≡ before_in rows link.event → more ≡ links ++ link ∷ [] → IsWayFrom rows before last more (link.finish - takes)
-way-step ticks rows last next before links more link takes step sums is on kind takes_is before_is more_is =
-    let within : link.event < length rows.finishes = on.within link.event is in
-    let here : link.finish ≡ finish_in rows link.event = on.finish ∙ ap (behind (finish_in rows)) is in
-    let told : IsLinkIn rows before link = record { within = within; before_is = sym before_is; finish = here; kind = kind } in
-    let way : IsWay rows (Some link.event) last (reverse links) = subst (λ (o : Option ℕ). IsWay rows o last (reverse links)) is on.way in
+-- from the event before it on with the event's link
+pub way-step : (rows : Rows) (last next before : Option ℕ) (links more : List Link) (event : ℕ) (link : Link) → AreInStep rows → next ≡ Some event → link.event ≡ event → IsWayFrom rows next last links
+    → link.finish ≡ finish_in rows event → slice_get rows.kinds event ≡ Some link.kind → before ≡ before_in rows event → more ≡ links ++ link ∷ [] → IsWayFrom rows before last more
+way-step rows last next before links more event link step is named on here kind before_is more_is =
+    let within : event < length rows.finishes = on.within event is in
+    let told : IsLinkIn rows before link =
     record {
-      within = λ i before_at. omega (arith, step.earlier link.event i (sym before_is ∙ before_at), within);
-      way = subst (λ (xs : List Link). IsWay rows before last (reverse xs)) (sym more_is) (way-more rows before last links link told way);
-      finish = omega (arith, here, sums link.event link.kind within kind, takes_is, ap (behind (finish_in rows)) before_is);
+      within = omega (arith, within, named);
+      before_is = ap (before_in rows) named ∙ sym before_is;
+      finish = here ∙ ap (finish_in rows) (sym named);
+      kind = ap (slice_get rows.kinds) named ∙ kind;
     }
+    in
+    let way : IsWay rows (Some link.event) last (reverse links) = subst (λ (o : Option ℕ). IsWay rows o last (reverse links)) (is ∙ ap (λ (x : ℕ). Some x) (sym named)) on.way in
+    record {
+      within = λ i before_at. omega (arith, step.earlier event i (sym before_is ∙ before_at), within);
+      way = subst (λ (xs : List Link). IsWay rows before last (reverse xs)) (sym more_is) (way-more rows before last links link told way);
+    }
+
+-- the links' events take no more than what is between the one before them and the last
+pub way-ticks : (ticks : Ticks) (rows : Rows) (before last : Option ℕ) (links : List Link) → AreSummed ticks rows → IsWay rows before last links
+    → behind (finish_in rows) before + sum_by (ticks_of_link ticks) links ≤ behind (finish_in rows) last
+way-ticks ticks rows before last [] sums way = omega (arith, ap (behind (finish_in rows)) way)
+way-ticks ticks rows before last (link ∷ links) sums way =
+    omega (
+      arith,
+      way-ticks ticks rows (Some link.event) last links sums way.1,
+      sums link.event link.kind way.0.within way.0.kind,
+      ap (behind (finish_in rows)) way.0.before_is,
+      sum_by-cons (ticks_of_link ticks) link links,
+    )
 
 pub way-leads : (rows : Rows) (before last : Option ℕ) (links : List Link) → IsWay rows before last links
     → Leads (length rows.finishes) (before_in rows) before last (map (λ (link : Link). link.event) links)

@@ -2,6 +2,7 @@ pub mod Chains
 pub mod Depends
 pub mod Ticks
 pub mod Network
+pub mod Steps
 pub mod Longest
 pub mod Finishes
 pub mod Befores

@@ -1,5 +1,5 @@
 -- How long a message is under way: its network's latency for each hop.
-use Rattle.std.specs.Prelude.{◌≡◌, ℕ, ◌+◌, ◌-◌, ◌*◌, ◌/◌, ◌%◌, ◌≤◌}
+use Rattle.std.specs.Prelude.{◌≡◌, ℕ, ◌+◌, ◌-◌, ◌*◌, ◌/◌, ◌%◌, ◌==◌, ◌≤◌, Option, Some, None, if◌then◌else◌}
 use Rattle.dn_base.specs.declared.ids.Shape.{Shape}
 use Rattle.message_net.specs.declared.actor.Actor.{Actor}
 use Rattle.message_net.specs.declared.actor.Actor.TheVariants.{Core, Bank, Keeper}
@@ -34,6 +34,14 @@ hops Mesh shape from to =
 -- how many ticks a message is under way
 abbrev pub delay : Network → Shape → Actor → Actor → ℕ
 delay network shape from to = network.latency * hops network.net shape from to
+
+-- messages take no time on their way
+abbrev pub no_latency : Network
+no_latency = record { net = Uniform; latency = 0 }
+
+-- how much messages are under way, told of a network with a latency alone
+abbrev pub told_delay : Network → ℕ → Option ℕ
+told_delay network n = if network.latency == 0 then None else Some n
 
 -- a hop takes at most 1,000,000 ticks
 abbrev pub IsWithinLatency : Network → Type 0

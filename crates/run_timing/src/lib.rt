@@ -19,7 +19,7 @@ mod tracks;
 mod way;
 
 pub use finishes::{finish_events, finish_run};
-pub use laws::a_run_has_one_timing;
+pub use laws::{a_run_has_one_timing, the_time_is_the_greatest_finish};
 pub use network::{Net, Network};
 pub use text::{push_timing, time_text};
 pub use ticks::Ticks;

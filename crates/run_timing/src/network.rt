@@ -1,7 +1,7 @@
 ghost use Rattle.std.specs.Prelude.{◌≡◌, ◌≤◌, true};
 ghost use Rattle.std.specs.Int.{IsInRange};
 ghost use Rattle.message_net.specs.Mail.{has_actor};
-ghost use Rattle.run_timing.specs.Network.{IsWithinLatency, delay, difference, hops, tile_of};
+ghost use Rattle.run_timing.specs.Network.{IsWithinLatency, delay, difference, hops, no_latency, tile_of};
 
 use dn_base::Shape;
 use message_net::Actor;
@@ -47,6 +47,16 @@ fn apart(a: u32, b: u32) -> u32
 }
 
 impl Network {
+    /// A network in which messages take no time on their way.
+    pub fn no_latency() -> Network
+        ensures { result ≡ no_latency }
+    {
+        Network {
+            net: Net::Uniform,
+            latency: 0,
+        }
+    }
+
     /// How many hops a message takes, at most 6.
     fn hops(&self, shape: Shape, from: Actor, to: Actor) -> u32
         requires from { has_actor shape.cores shape.banks from ≡ true }

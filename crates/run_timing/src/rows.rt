@@ -1,5 +1,5 @@
 ghost use Rattle.std.specs.Prelude.{◌≡◌, ◌+◌, ◌<◌, ◌≤◌, ℕ, [], Some, length, OnOk, IfOk};
-ghost use Rattle.run_timing.specs.Rows.{IsLatest, behind, finish_in, later, with_timing_row};
+ghost use Rattle.run_timing.specs.Rows.{IsLatest, behind, finish_in, start_after, with_timing_row};
 
 use crate::befores::Befores;
 use dn_base::{MOST_EVENTS, Memory, Sequence};
@@ -7,6 +7,13 @@ use message_net::EventKind;
 use std::alloc::Global;
 
 const _: () = prove!(size_of::<EventKind>() == 1);
+
+/// When an event starts, in ticks from the run's start, and the event after which it comes, if any.
+#[derive(Clone, Copy)]
+pub(crate) struct Start {
+    pub(crate) event: Option<u32>,
+    pub(crate) tick: u64,
+}
 
 /// The notes of each event of a run: when it finishes, the event after which it comes, and its kind.
 #[derive(Drop)]
@@ -42,43 +49,48 @@ impl Rows {
         }
     }
 
-    /// Of two events the one that finishes later; the first one if both finish at the same time.
-    pub(crate) fn later(&self, first: Option<u32>, second: Option<u32>) -> Option<u32>
-        requires first { (i : ℕ) → first ≡ Some i → i < length self.now.finishes }
-        requires second { (i : ℕ) → second ≡ Some i → i < length self.now.finishes }
-        ensures { result ≡ later (finish_in self.now) first second }
+    /// When an event starts, by the event before it of its own actor and the one that sent its message, which is under way for some
+    /// ticks: at the later of the one's finish and the message's arrival. It comes after the one that is later, the own actor's if both
+    /// are alike.
+    pub(crate) fn start(&self, own: Option<u32>, sender: Option<u32>, delay: u64) -> Start
+        requires own { (i : ℕ) → own ≡ Some i → i < length self.now.finishes }
+        requires sender { (i : ℕ) → sender ≡ Some i → i < length self.now.finishes }
+        requires fits { behind (finish_in self.now) sender + delay < 18446744073709551616 }
+        ensures { result ≡ start_after (finish_in self.now) delay own sender }
     {
-        match (first, second) {
+        let free = Start {
+            event: own,
+            tick: self.finish(own),
+        };
+        let arrival = Start {
+            event: sender,
+            tick: self.finish(sender) + delay,
+        };
+        match (own, sender) {
             (Some(_), Some(_)) => {
-                if self.finish(first) < self.finish(second) {
-                    second
+                if free.tick < arrival.tick {
+                    arrival
                 } else {
-                    first
+                    free
                 }
             }
-            (Some(_), None) => first,
-            (None, _) => second,
+            (None, Some(_)) => arrival,
+            (_, None) => free,
         }
     }
 
-    /// Notes one more event, of this kind and this many ticks, after another.
+    /// Notes one more event, of this kind and this many ticks, which starts then.
     ///
     /// # Errors
     /// `Memory` where there is no room.
-    pub(crate) fn add(
-        &mut self,
-        kind: EventKind,
-        ticks: u32,
-        before: Option<u32>,
-    ) -> Result<(), Memory>
-        requires before { (i : ℕ) → before ≡ Some i → i < length self.old.finishes }
+    pub(crate) fn add(&mut self, kind: EventKind, ticks: u32, start: Start) -> Result<(), Memory>
+        requires before { (i : ℕ) → start.event ≡ Some i → i < length self.old.finishes }
         requires few { length self.old.finishes ≤ MOST_EVENTS }
-        requires fits { behind (finish_in self.old) before + ticks < 18446744073709551616 }
-        ensures { OnOk result (self.new ≡ with_timing_row kind ticks before self.old) }
+        requires fits { start.tick + ticks < 18446744073709551616 }
+        ensures { OnOk result (self.new ≡ with_timing_row kind ticks start self.old) }
     {
-        let finish = self.finish(before) + ticks as u64;
-        self.finishes.push(finish)?;
-        self.befores.push(before)?;
+        self.finishes.push(start.tick + ticks as u64)?;
+        self.befores.push(start.event)?;
         self.kinds.push(kind)
     }
 

@@ -5,7 +5,7 @@ ghost use Rattle.run_timing.specs.Noted.{AreRowsOf};
 ghost use Rattle.run_timing.specs.Ticks.{AreWithinLimits};
 
 use crate::making::{make, sent_since};
-use crate::noting::note_row;
+use crate::noting::{handled_delay, note_row};
 use crate::rows::Rows;
 use crate::ticks::Ticks;
 use crate::tracks::Tracks;
@@ -44,10 +44,11 @@ fn note_run(
     for event in events {
         let happened = make(machine, *event)?;
         let index = happened.actor.index(shape.cores, shape.banks);
-        let before = tracks.before(rows, *event, index, shape);
+        let delay = handled_delay(&ticks.network, *event, happened.actor, shape);
+        let start = tracks.start(rows, *event, index, shape, delay);
         let sent = sent_since(machine, tracks, happened.actor, index);
         tracks.note(index, sent, number)?;
-        note_row(rows, happened, before, ticks)?;
+        note_row(rows, happened, start, ticks)?;
         number += 1;
     }
     Ok(())

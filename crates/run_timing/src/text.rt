@@ -1,5 +1,5 @@
 ghost use Rattle.std.specs.Prelude.{◌≡◌, ◌++◌, flat_map, IfOk, OnOk};
-ghost use Rattle.run_timing.specs.Text.{chain_line, link_line, time_line, timing_of};
+ghost use Rattle.run_timing.specs.Text.{chain_line, link_line, network_line, time_line, timing_of};
 
 use crate::timing::{Link, Timing};
 use dn_base::Memory;
@@ -25,6 +25,20 @@ fn push_count(out: &mut Vec<u8>, links: u64) -> Result<(), Memory>
     push(out, b"\n")
 }
 
+#[tactic(auto, unfolding(crate::specs::Text::network_line), using(crate::proofs::Shown::nothing_shown))]
+fn push_network(out: &mut Vec<u8>, network: Option<u64>) -> Result<(), Memory>
+    ensures { OnOk result (out.new.items ≡ out.old.items ++ network_line network) }
+{
+    match network {
+        Some(ticks) => {
+            push(out, b"network ")?;
+            push_long(out, ticks)?;
+            push(out, b"\n")
+        }
+        None => Ok(()),
+    }
+}
+
 #[tactic(auto, unfolding(crate::specs::Text::link_line))]
 fn push_link(out: &mut Vec<u8>, link: Link) -> Result<(), Memory>
     ensures { OnOk result (out.new.items ≡ out.old.items ++ link_line link) }
@@ -47,8 +61,8 @@ fn push_links(out: &mut Vec<u8>, links: &[Link]) -> Result<(), Memory>
     Ok(())
 }
 
-/// Appends the printed timing to a text: how many ticks the run takes, how many links the chain has, and for each link, in
-/// order, a line with the number of its event, the event's kind and when it finishes.
+/// Appends the printed timing to a text: how many ticks the run takes, how many links the chain has, in a network with a latency how
+/// many of the ticks messages are under way, and for each link, in order, a line with the number of its event, the event's kind and when it finishes.
 ///
 /// # Errors
 /// `Memory` if there is no room; the text may have part of the timing then.
@@ -58,6 +72,7 @@ pub fn push_timing(out: &mut Vec<u8>, timing: &Timing) -> Result<(), Memory>
 {
     push_total(out, timing.total)?;
     push_count(out, timing.links.len() as u64)?;
+    push_network(out, timing.network)?;
     push_links(out, timing.links.as_slice())
 }
 

@@ -11,9 +11,11 @@ pub struct Link {
 
 const _: () = prove!(size_of::<Link>() == 16);
 
-/// How many ticks a run takes, and the chain of dependent events that takes them.
+/// How many ticks a run takes, and the chain of dependent events that takes them. `network` has how many of the ticks messages are
+/// under way, by which one event of the chain depends on the one before it; None in a network without latency.
 #[derive(Drop)]
 pub struct Timing {
     pub total: u64,
+    pub network: Option<u64>,
     pub links: Vec<Link>,
 }

@@ -13,4 +13,5 @@ pub mod Reached
 pub mod Rising
 pub mod OneOrder
 pub mod Orders
+pub mod AsSent
 pub mod Looking

@@ -46,7 +46,7 @@ pub candidate-comes : (S : State) (e : Event) → IsWell S → IsCandidate S e �
 candidate-comes S e well (inl own) = own-event-comes S own.0 e well.machine own.1
 candidate-comes S e well (inr mail) = subst (λ (x : Event). enabled S x ≡ true) (sym mail.1) (handling-comes S mail.0 mail.2)
 
-handling-counted : (S : State) (id : MailId) → enabled S (Handle id) ≡ true → 1 ≤ count_of id S.mails
+pub handling-counted : (S : State) (id : MailId) → enabled S (Handle id) ≡ true → 1 ≤ count_of id S.mails
 unfolding enabled
 handling-counted S id may = grind (arith, nat_tests, may)
 
@@ -87,10 +87,10 @@ core-place S (Handle id) core is = by_mail (removed id S.mails).0 refl is where
   by_mail (Some m) taken own = by_actor m m.to refl taken own
 
 module _ (ticks : Ticks) (network : Network) (S : State) (K : Clock) (e : Event) (reached : IsReached S) (is : IsNextEvent S K e) where
-  well : IsWell S
+  pub well : IsWell S
   well = well-reached S reached
 
-  may : enabled S e ≡ true
+  pub may : enabled S e ≡ true
   may = candidate-comes S e well is.candidate
 
   abbrev pub T : State
@@ -99,13 +99,13 @@ module _ (ticks : Ticks) (network : Network) (S : State) (K : Clock) (e : Event)
   abbrev pub K' : Clock
   K' = clock_after_event ticks network S K e
 
-  well-then : IsWell T
+  pub well-then : IsWell T
   well-then = well-reached T (reached-next S e reached may)
 
-  actor : (a : Actor) × (actor_in S e ≡ Some a)
+  pub actor : (a : Actor) × (actor_in S e ≡ Some a)
   actor = actor-of S e may
 
-  there : has_actor S.setting.shape.cores S.setting.shape.banks actor.0 ≡ true
+  pub there : has_actor S.setting.shape.cores S.setting.shape.banks actor.0 ≡ true
   there = let inv = invariant-reached S reached in actor-there S inv.0 e actor.0 inv.1 may actor.1
 
   -- the actor of the event isn't free before it finishes, and others are free as before
@@ -157,7 +157,7 @@ module _ (ticks : Ticks) (network : Network) (S : State) (K : Clock) (e : Event)
         omega (arith, ap (λ (y : Event). sum_by w (left_by S y)) same, sum_by-taken w id S.mails found.1 (ap (λ (p : Option Mail × List Mail). p.0) found.2.takes))
 
   -- a message that was in flight goes to the same actor
-  same-place : (id : MailId) → 1 ≤ count_of id S.mails → 1 ≤ count_of id T.mails → place_in T (Handle id) ≡ place_in S (Handle id)
+  pub same-place : (id : MailId) → 1 ≤ count_of id S.mails → 1 ≤ count_of id T.mails → place_in T (Handle id) ≡ place_in S (Handle id)
   same-place id before after_ =
       place-of T id m place taken (ap (λ (C : Setting). index C.shape m.to) (same-setting S e)) ∙ sym (place-of S id old.1 place old-taken (goes-to shape place id old.1 old.3).0)
     where

@@ -1,12 +1,15 @@
 -- What a run in time order looks like on its clock.
 use Rattle.std.specs.Prelude.{◌≡◌, ℕ, ◌≤◌, List, [], ◌∷◌, ◌++◌}
+use Rattle.message_net.specs.declared.actor.MailId.{MailId}
 use Rattle.message_net.specs.declared.event.Event.{Event}
+use Rattle.message_net.specs.declared.event.Event.TheVariants.{Handle}
+use Rattle.message_net.specs.Pool.{count_of}
 use Rattle.machine_rules.specs.State.{State}
 use Rattle.machine_rules.specs.Next.{next}
 use Rattle.machine_rules.specs.Runs.{after}
 use Rattle.run_timing.specs.declared.network.Network.{Network}
 use Rattle.run_timing.specs.declared.ticks.Ticks.{Ticks}
-use Rattle.time_order.specs.Clock.{Clock, start_of, clock_after_event, clock_behind, clock_at_start}
+use Rattle.time_order.specs.Clock.{Clock, receiver_in, start_of, clock_after_event, clock_behind, clock_at_start}
 use Rattle.time_order.specs.TimeOrder.{IsCandidate}
 
 -- when each event starts
@@ -29,3 +32,10 @@ abbrev pub NothingIsPassedOver : Ticks → Network → State → List Event → 
 NothingIsPassedOver ticks network S events =
     (before rest : List Event) (e other : Event) → events ≡ before ++ e ∷ rest → IsCandidate (after S before) other
     → start_of (after S before) (clock_behind ticks network S clock_at_start before) e ≤ start_of (after S before) (clock_behind ticks network S clock_at_start before) other
+
+-- an actor handles what any one actor sends it in the order of sending: when it handles a message, none that the same sender sent it
+-- before is in flight any more
+abbrev pub AreHandledAsSent : State → List Event → Type 0
+AreHandledAsSent S events =
+    (before rest : List Event) (id other : MailId) → events ≡ before ++ Handle id ∷ rest → 1 ≤ count_of other (after S before).mails → other.sender ≡ id.sender
+    → receiver_in (after S before) other ≡ receiver_in (after S before) id → id.number ≤ other.number

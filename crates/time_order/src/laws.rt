@@ -9,7 +9,7 @@ ghost use Rattle.machine_rules.specs.Sound.{IsReady};
 ghost use Rattle.run_timing.specs.declared.network.Network.{Network};
 ghost use Rattle.run_timing.specs.declared.ticks.Ticks.{Ticks};
 ghost use Rattle.time_order.specs.Clock.{clock_at_start};
-ghost use Rattle.time_order.specs.Laws.{NeverFall, NothingIsPassedOver, starts_of};
+ghost use Rattle.time_order.specs.Laws.{AreHandledAsSent, NeverFall, NothingIsPassedOver, starts_of};
 ghost use Rattle.time_order.specs.TimeOrder.{AreInTimeOrder};
 
 /// A machine, ticks and a network have one complete run in time order.
@@ -30,4 +30,10 @@ pub fn starts_never_fall()
 pub fn nothing_is_passed_over()
     ensures { (C : Setting) (ticks : Ticks) (network : Network) (events : List Event)
         → AreInTimeOrder ticks network (initial_state C) clock_at_start events → NothingIsPassedOver ticks network (initial_state C) events }
+{}
+
+/// In time order an actor handles what any one actor sends it in the order of sending.
+pub fn messages_are_handled_as_sent()
+    ensures { (C : Setting) (ticks : Ticks) (network : Network) (events : List Event) → IsReady C
+        → AreInTimeOrder ticks network (initial_state C) clock_at_start events → AreHandledAsSent (initial_state C) events }
 {}

@@ -10,5 +10,8 @@ mod queue;
 mod running;
 mod sending;
 
-pub use laws::{nothing_is_passed_over, starts_never_fall, there_is_one_run_in_time_order};
+pub use laws::{
+    messages_are_handled_as_sent, nothing_is_passed_over, starts_never_fall,
+    there_is_one_run_in_time_order,
+};
 pub use running::run_in_time_order;

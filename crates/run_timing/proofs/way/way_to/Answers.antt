@@ -3,6 +3,5 @@ use Rattle.run_timing.proofs.way.way_to.Goals as goal
 
 pub loop-next-preserved : goal.loop-next-preserved
 loop-next-preserved c =
-    way-step c.args.ticks.now c.args.rows c.args.last c.loop-next.next c.get-next.result c.loop-next.links.items c.push.new.self.items
-    (record { event = c.in-Some.event; kind = c.kind_at-kind.result; finish = c.loop-next.finish }) c.of.result c.requires.rows c.requires.summed c.in-Some.is c.loop-next.invariant
-    c.kind_at-kind.ensures c.of.ensures.value c.get-next.ensures c.in_ok-push.ensures.items
+    way-step c.args.rows.now c.args.last c.loop-next.next c.get-next.result c.loop-next.links.items c.push.new.self.items c.in-Some.event c.link_of-link.result c.requires.rows c.in-Some.is
+    c.link_of-link.ensures.event c.loop-next.invariant c.link_of-link.ensures.finish c.link_of-link.ensures.kind c.get-next.ensures c.in_ok-push.ensures.items

@@ -82,7 +82,7 @@ loop-place-preserved c =
       on =
           on-time-more c.args.ticks.now c.args.network.now c.args.machine.now.state.setting c.loop-place.machine.state c.advance.new.machine.state c.loop-place.machine.made c.advance.new.machine.made c.loop-place.log
           c.note.new.self c.first.new.self.free c.set.new.self c.first.new.self.queues.items c.take_handled.new.queues.items c.put_sent.new.queues.items c.first.new.self.choices (c.in-Some.place, c.in-Some.choice)
-          c.in-Some-2.happened c.staying-first.result c.shape-shape.result (c.in-Some.choice.start + c.of.result) c.requires.latency (λ kind. (c.requires.ticks kind).1) t.on t.prepared by c.in_ok-note.ensures c.staying-first.ensures c.shape-shape.ensures
+          c.in-Some-2.happened c.staying-first.result c.shape-shape.result (c.in-Some.choice.start + c.of.result) c.requires.latency (λ kind. (c.requires.ticks.events kind).1) t.on t.prepared by c.in_ok-note.ensures c.staying-first.ensures c.shape-shape.ensures
           (ap (λ (n : ℕ). c.in-Some.choice.start + n) c.of.ensures.value) c.set.ensures (c.in_ok-put_sent.ensures.rows ∙ c.take_handled.ensures.rows) c.take_handled.ensures.weights
           (λ other w. c.in_ok-put_sent.ensures.weights other w ∙ ap (λ (ms : List Mail). sum_by w (queue_at c.take_handled.new.queues.items other) + weight_to c.args.network.now c.shape-shape.result (c.in-Some.choice.start + c.of.result) other w (drop c.staying-first.result ms)) c.pool.ensures);
       shape = c.shape-shape.ensures;
