@@ -1,11 +1,14 @@
 pub mod Agreeing
+mod AloneRuns
 mod Calls
+mod CommonAnswers
 mod CommonRuns
 mod Ends
 mod HandedBack
 mod Holders
 mod Modes
 mod Named
+mod OpenAnswers
 mod Outputs
 mod Programs
 mod Ranges
