@@ -6,6 +6,7 @@ pub mod LockLemmas
 pub mod MarkLemmas
 pub mod PhaseLemmas
 pub mod PrintedLemmas
+pub mod ReasonLemmas
 pub mod StepLemmas
 pub mod TrackLemmas
 pub mod ReadLemmas

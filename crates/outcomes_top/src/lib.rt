@@ -11,12 +11,17 @@ mod finding;
 mod kinds;
 mod laws;
 mod marks;
+mod origins;
 mod phase;
 mod program;
+mod reasons;
 mod serving;
 mod status;
 mod summary;
+mod takings;
 mod text;
+mod watched;
+mod why;
 mod words;
 
 pub use answering::{Reply, answer};
@@ -28,7 +33,9 @@ pub use laws::{
 };
 pub use program::outcomes_program;
 pub use program_outside::WordsFault;
+pub use reasons::{Dependence, Read, Reason, Taken};
 pub use serving::{CommonOutcomes, outcomes_main};
 pub use status::OutcomesStatus;
 pub use text::{common_text, open_line};
+pub use why::why_open;
 pub use words::read_words;
