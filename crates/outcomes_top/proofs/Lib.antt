@@ -1,3 +1,4 @@
+pub mod BecauseLemmas
 pub mod BesideLemmas
 pub mod Commands
 pub mod LimitLemmas

@@ -4,6 +4,7 @@ pub mod Command
 pub mod Effects
 pub mod Marks
 pub mod Place
+pub mod ReasonLaws
 pub mod Reasons
 pub mod Status
 pub mod Text
