@@ -26,7 +26,7 @@ use Rattle.explained_answer.specs.declared.parsing.ReadAnswer as read_answer
 use Rattle.explained_answer.specs.Ended.{named_on, outcome_text, ended_holder_text}
 use Rattle.sentences.specs.declared.endings.Standstill.{Standstill}
 use Rattle.explained_answer.specs.declared.run_again.AgainRun.{AgainRun}
-use Rattle.explained_answer.specs.Reasons.{reason_behind}
+use Rattle.explained_answer.specs.Reasons.{said_of_reason}
 use Rattle.explained_answer.specs.RunAgain.{answer_again, standstill_on}
 use Rattle.explained_answer.specs.Several.{answers_in}
 
@@ -130,7 +130,7 @@ sentences_behind text l still named (line.TheVariants.Fixed f) = []
 -- a line of an answer that has these lines, and of which this is known besides, and what is said after it
 abbrev pub explained_line : List ℕ → Located → AgainRun → List AnswerLine → AnswerLine → List ℕ
 explained_line text l again lines x =
-    answer_line x ++ sentences_behind text l (standstill_on again lines x) (named_on lines x) x ++ reason_behind text l again.why x
+    answer_line x ++ sentences_behind text l (standstill_on again lines x) (named_on lines x) x ++ said_of_reason text l again.why x
 
 -- the lines of one answer, each with what is said after it. `again` is the program that is run once more for where the answer's tasks
 -- stand; without one, that isn't said

@@ -5,7 +5,7 @@ ghost use Rattle.sentences.specs.Told.{AreTold};
 ghost use Rattle.sentences.specs.Quotes.{AreSpans};
 ghost use Rattle.explained_answer.specs.AnswerLines.{answer_line};
 ghost use Rattle.explained_answer.specs.Lines.{named_word, named_lock, which_line, declared_there, task_there, the_instruction, at_its_place, instruction_there, unproven_text, varying_word, control_warning, control_text, the_task, that_line, declared_by, while_it_holds, held_warning, stuck_warning, held_text, stuck_text, sentences_behind};
-ghost use Rattle.explained_answer.specs.Reasons.{reason_behind};
+ghost use Rattle.explained_answer.specs.Reasons.{said_of_reason};
 
 use crate::AnswerLine;
 use crate::causes::{push_ended_holder, push_outcome};
@@ -304,7 +304,7 @@ pub(crate) fn push_explained<'a>(
     requires spans { AreSpans text.now spans.now }
     requires effects { AreTold text.now effects.now }
     requires written { written.now ≡ answer_line line }
-    ensures { OnOk result (out.new.items ≡ out.old.items ++ (answer_line line ++ sentences_behind text.now located.now still named line ++ reason_behind text.now located.now why line)) }
+    ensures { OnOk result (out.new.items ≡ out.old.items ++ (answer_line line ++ sentences_behind text.now located.now still named line ++ said_of_reason text.now located.now why line)) }
 {
     push(out, written)?;
     push_sentences(out, text, spans, effects, located, line, still, named)?;

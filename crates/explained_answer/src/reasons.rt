@@ -4,7 +4,7 @@ ghost use Rattle.std.specs.List.{list_any};
 ghost use Rattle.sentences.specs.Endings.{place_behind, place_if};
 ghost use Rattle.sentences.specs.Quotes.{AreSpans};
 ghost use Rattle.explained_answer.specs.Lines.{lines_in};
-ghost use Rattle.explained_answer.specs.Reasons.{is_open_line, is_control, is_held_end, is_stuck, is_open_so, reason_for, reason_by_lines, reads_register, read_under, under_lock, ends_sentence, the_load, dependence_text, depends_text, a_task, own_line, task_line_text, holds_lock, while_holding, takes_lock, taken_at_place, place_or_end, taken_text, takes_text, phase_of, reason_text, sweep_advice, reason_behind};
+ghost use Rattle.explained_answer.specs.Reasons.{is_open_line, is_control, is_held_end, is_stuck_so, is_open_so, reason_for, reason_by_lines, reads_register, guarded_text, under_if, ends_sentence, the_load, dependence_text, depends_text, a_task, task_that_line, task_line_text, holding_text, while_holding, takes_lock, taken_at_place, place_or_end, acquire_text, takes_text, open_phase, why_text, sweep_advice, said_of_reason};
 
 use crate::AnswerLine;
 use crate::parsing::ReadLine;
@@ -57,8 +57,8 @@ fn is_held_end(phase: u32, core: u32, lock: u32, why: Open) -> bool
     }
 }
 
-fn is_stuck(phase: u32, lock: u32, why: Open) -> bool
-    ensures { result ≡ is_stuck phase lock why }
+fn is_stuck_so(phase: u32, lock: u32, why: Open) -> bool
+    ensures { result ≡ is_stuck_so phase lock why }
 {
     match why {
         Open::Stuck { phase: p, lock: k } => phase == p.0 && lock == k.0,
@@ -77,7 +77,7 @@ fn is_open_so(line: AnswerLine, why: Open) -> bool
             pc: at,
         } => is_control(phase, core, at, why),
         AnswerLine::OpenHeld { phase, core, lock } => is_held_end(phase, core, lock, why),
-        AnswerLine::OpenStuck { phase, lock } => is_stuck(phase, lock, why),
+        AnswerLine::OpenStuck { phase, lock } => is_stuck_so(phase, lock, why),
         _ => false,
     }
 }
@@ -128,19 +128,19 @@ fn push_reads_register(out: &mut Vec<u8>, register: u32) -> Result<(), Memory>
     push(out, b", whose value comes from ")
 }
 
-#[tactic(auto, unfolding(crate::specs::Reasons::read_under))]
-fn push_read_under(out: &mut Vec<u8>, located: &Located, lock: u32) -> Result<(), Memory>
-    ensures { OnOk result (out.new.items ≡ out.old.items ++ read_under located.now lock) }
+#[tactic(auto, unfolding(crate::specs::Reasons::guarded_text))]
+fn push_guarded_text(out: &mut Vec<u8>, located: &Located, lock: u32) -> Result<(), Memory>
+    ensures { OnOk result (out.new.items ≡ out.old.items ++ guarded_text located.now lock) }
 {
     push(out, b", read under ")?;
     push_lock(out, located.program.locks.as_slice(), lock as usize)
 }
 
-fn push_under_lock(out: &mut Vec<u8>, located: &Located, lock: Option<u32>) -> Result<(), Memory>
-    ensures { OnOk result (out.new.items ≡ out.old.items ++ under_lock located.now lock) }
+fn push_under_if(out: &mut Vec<u8>, located: &Located, lock: Option<u32>) -> Result<(), Memory>
+    ensures { OnOk result (out.new.items ≡ out.old.items ++ under_if located.now lock) }
 {
     match lock {
-        Some(lock) => push_read_under(out, located, lock),
+        Some(lock) => push_guarded_text(out, located, lock),
         None => Ok(()),
     }
 }
@@ -183,7 +183,7 @@ fn push_dependence(
     let read = dependence.read;
     push_reads_register(out, dependence.register)?;
     push_word(out, &located.program, read.word.0)?;
-    push_under_lock(out, located, read.lock)?;
+    push_under_if(out, located, read.lock)?;
     push_end_of_sentence(out)?;
     push_load_place(out, text, spans, code_place_at(&located.places, read.pc))
 }
@@ -211,9 +211,9 @@ fn push_a_task(out: &mut Vec<u8>) -> Result<(), Memory>
     push(out, b"  The task")
 }
 
-#[tactic(auto, unfolding(crate::specs::Reasons::own_line))]
-fn push_own_line(out: &mut Vec<u8>, line: u32) -> Result<(), Memory>
-    ensures { OnOk result (out.new.items ≡ out.old.items ++ own_line line) }
+#[tactic(auto, unfolding(crate::specs::Reasons::task_that_line))]
+fn push_task_that_line(out: &mut Vec<u8>, line: u32) -> Result<(), Memory>
+    ensures { OnOk result (out.new.items ≡ out.old.items ++ task_that_line line) }
 {
     push(out, b" that line ")?;
     push_decimal(out, line)?;
@@ -224,14 +224,14 @@ fn push_task_line(out: &mut Vec<u8>, task: Option<TaskPlace>) -> Result<(), Memo
     ensures { OnOk result (out.new.items ≡ out.old.items ++ task_line_text task) }
 {
     match task {
-        Some(place) => push_own_line(out, place.line),
+        Some(place) => push_task_that_line(out, place.line),
         None => Ok(()),
     }
 }
 
-#[tactic(auto, unfolding(crate::specs::Reasons::holds_lock))]
-fn push_holds_lock(out: &mut Vec<u8>, located: &Located, lock: u32) -> Result<(), Memory>
-    ensures { OnOk result (out.new.items ≡ out.old.items ++ holds_lock located.now lock) }
+#[tactic(auto, unfolding(crate::specs::Reasons::holding_text))]
+fn push_holding_text(out: &mut Vec<u8>, located: &Located, lock: u32) -> Result<(), Memory>
+    ensures { OnOk result (out.new.items ≡ out.old.items ++ holding_text located.now lock) }
 {
     push(out, b" holds ")?;
     push_lock(out, located.program.locks.as_slice(), lock as usize)?;
@@ -242,7 +242,7 @@ fn push_while_holding(out: &mut Vec<u8>, located: &Located, lock: Option<u32>) -
     ensures { OnOk result (out.new.items ≡ out.old.items ++ while_holding located.now lock) }
 {
     match lock {
-        Some(lock) => push_holds_lock(out, located, lock),
+        Some(lock) => push_holding_text(out, located, lock),
         None => Ok(()),
     }
 }
@@ -273,7 +273,7 @@ fn push_place_or_end(
 }
 
 /// Adds which task takes the lock, and where.
-fn push_taken(
+fn push_acquire_text(
     out: &mut Vec<u8>,
     text: &[u8],
     spans: &[Span],
@@ -282,7 +282,7 @@ fn push_taken(
     taken: Taken,
 ) -> Result<(), Memory>
     requires { AreSpans text.now spans.now }
-    ensures { OnOk result (out.new.items ≡ out.old.items ++ taken_text text.now located.now phase taken) }
+    ensures { OnOk result (out.new.items ≡ out.old.items ++ acquire_text text.now located.now phase taken) }
 {
     push_a_task(out)?;
     push_task_line(out, located.places.task(phase as usize, taken.core.0))?;
@@ -303,14 +303,14 @@ fn push_takes(
     ensures { OnOk result (out.new.items ≡ out.old.items ++ takes_text text.now located.now phase taken) }
 {
     match taken {
-        Some(taken) => push_taken(out, text, spans, located, phase, taken),
+        Some(taken) => push_acquire_text(out, text, spans, located, phase, taken),
         None => Ok(()),
     }
 }
 
 /// The phase that is open.
-fn phase_of(why: Open) -> u32
-    ensures { result ≡ phase_of why }
+fn open_phase(why: Open) -> u32
+    ensures { result ≡ open_phase why }
 {
     match why {
         Open::Control { phase, .. } | Open::Held { phase, .. } | Open::Stuck { phase, .. } => {
@@ -319,7 +319,7 @@ fn phase_of(why: Open) -> u32
     }
 }
 
-fn push_reason_text(
+fn push_why_text(
     out: &mut Vec<u8>,
     text: &[u8],
     spans: &[Span],
@@ -327,11 +327,11 @@ fn push_reason_text(
     reason: Option<Reason>,
 ) -> Result<(), Memory>
     requires { AreSpans text.now spans.now }
-    ensures { OnOk result (out.new.items ≡ out.old.items ++ reason_text text.now located.now reason) }
+    ensures { OnOk result (out.new.items ≡ out.old.items ++ why_text text.now located.now reason) }
 {
     match reason {
         Some(reason) => {
-            let phase = phase_of(reason.why);
+            let phase = open_phase(reason.why);
             push_depends(out, text, spans, located, reason.dependence)?;
             push_takes(out, text, spans, located, phase, reason.first)?;
             push_takes(out, text, spans, located, phase, reason.second)
@@ -361,11 +361,11 @@ pub(crate) fn push_reason(
     line: AnswerLine,
 ) -> Result<(), Memory>
     requires { AreSpans text.now spans.now }
-    ensures { OnOk result (out.new.items ≡ out.old.items ++ reason_behind text.now located.now why line) }
+    ensures { OnOk result (out.new.items ≡ out.old.items ++ said_of_reason text.now located.now why line) }
 {
     if !is_open_line(line) {
         return Ok(());
     }
-    push_reason_text(out, text, spans, located, reason_for(why, line))?;
+    push_why_text(out, text, spans, located, reason_for(why, line))?;
     push_sweep_advice(out)
 }

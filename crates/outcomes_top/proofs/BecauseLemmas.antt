@@ -35,8 +35,8 @@ use Rattle.outcomes_top.specs.declared.reasons.Sought.{Sought}
 use Rattle.outcomes_top.specs.declared.reasons.Sought.TheVariants.{Own, Other, Onward, Back}
 use Rattle.outcomes_top.specs.declared.reasons.Taken.{Taken}
 use Rattle.outcomes_top.specs.declared.reasons.Taking.{Taking}
-use Rattle.outcomes_top.specs.Reasons.{goes, guard_of, read_of, origin_of, with_origin, origins_after, origins_fetched, origins_loaded, origins_by, origins_step, origins_from, origins_alone, if_open, first_open, depends_on, dependence_of, taken_by, taken_at, takings_from, takings_of, takings_in, holds, is_way, taken, sought_in, last_sought, reason_in, reason_by, reason_from, reason_of}
-use Rattle.outcomes_top.specs.ReasonLaws.{ComesTo, IsLoadOf, IsDependence, IsAcquireOf, IsTakenIn}
+use Rattle.outcomes_top.specs.Reasons.{makes_one, guard_of, read_of, origin_read, written_origin, origins_after, origins_fetched, origins_loaded, origins_by, origins_step, origins_from, origins_alone, if_open, first_open, depends_on, dependence_of, taking_by, taken_at, takings_from, takings_of, takings_in, holds, is_way, taken, sought_in, last_sought, reason_in, reason_by, reason_from, reason_of}
+use Rattle.outcomes_top.specs.ReasonLaws.{ComesTo, IsLoadOf, IsDependence, IsAcquireOf, IsMadeIn}
 
 -- ---- the answer is open for this reason
 
@@ -129,13 +129,13 @@ module _ (S : Setup) where
   abbrev IsLoadIf : Option Read → Type 0
   IsLoadIf o = (read : Read) → o ≡ Some read → IsLoadOf S read
 
-  origin-loads : (os : List (Option Read)) (r : ℕ) → AreLoads os → IsLoadIf (origin_of os r)
+  origin-loads : (os : List (Option Read)) (r : ℕ) → AreLoads os → IsLoadIf (origin_read os r)
   origin-loads os r h = by_test (r == 0) where
     by_test : (b : Bool) → IsLoadIf (if b then None else slice_index_or os r None)
     by_test true read e = absurd (none-some read e)
     by_test false read e = h r read e
 
-  write-loads : (os : List (Option Read)) (rd : ℕ) (o : Option Read) → AreLoads os → IsLoadIf o → AreLoads (with_origin os rd o)
+  write-loads : (os : List (Option Read)) (rd : ℕ) (o : Option Read) → AreLoads os → IsLoadIf o → AreLoads (written_origin os rd o)
   write-loads os rd o h k = by_test (rd == 0) where
     by_test : (b : Bool) → AreLoads (if b then os else slice_set os rd o)
     by_test true r read e = h r read e
@@ -154,9 +154,9 @@ module _ (S : Setup) where
   fetched-loads os (Some (instr.TheVariants.Auipc rd imm)) h = write-loads os rd None h no-load
   fetched-loads os (Some (instr.TheVariants.Jal rd offset)) h = write-loads os rd None h no-load
   fetched-loads os (Some (instr.TheVariants.Jalr rd base offset)) h = write-loads os rd None h no-load
-  fetched-loads os (Some (instr.TheVariants.OpImm op rd a imm)) h = write-loads os rd (origin_of os a) h (origin-loads os a h)
+  fetched-loads os (Some (instr.TheVariants.OpImm op rd a imm)) h = write-loads os rd (origin_read os a) h (origin-loads os a h)
   fetched-loads os (Some (instr.TheVariants.Op op rd a b)) h =
-      write-loads os rd (option_or (origin_of os a) (origin_of os b)) h (or-loads (origin_of os a) (origin_of os b) (origin-loads os a h) (origin-loads os b h))
+      write-loads os rd (option_or (origin_read os a) (origin_read os b)) h (or-loads (origin_read os a) (origin_read os b) (origin-loads os a h) (origin-loads os b h))
   fetched-loads os (Some (instr.TheVariants.Branch test a b offset)) h = h
   fetched-loads os (Some (instr.TheVariants.Load width rd base offset)) h = h
   fetched-loads os (Some (instr.TheVariants.Store width src base offset)) h = h
@@ -179,12 +179,12 @@ module _ (S : Setup) where
   loaded-loads os read (Some instr.TheVariants.Ecall) h k = h
   loaded-loads os read (Some instr.TheVariants.Ebreak) h k = h
 
-  -- a task that goes on
+  -- a task that makes_one on
   none-end : (o : Option End) → is_none o ≡ true → o ≡ None
   none-end None e = refl
   none-end (Some by) e = absurd (false≢true e)
 
-  comes-to : (n : ℕ) (a : Alone) → a ≡ alone_steps S n (start_alone S) → goes S a ≡ true → ComesTo S n a
+  comes-to : (n : ℕ) (a : Alone) → a ≡ alone_steps S n (start_alone S) → makes_one S a ≡ true → ComesTo S n a
   comes-to n a is e =
       let both = and_parts (is_none a.state.end) (is_settled_next S a) e in
       record { is = is; runs = none-end a.state.end both.0; settled = both.1 }
@@ -208,8 +208,8 @@ module _ (S : Setup) where
   by-loads n a os comes h (need.TheVariants.End by) e i = h
 
   step-loads : (n : ℕ) (a : Alone) (os : List (Option Read)) → a ≡ alone_steps S n (start_alone S) → AreLoads os → AreLoads (origins_step S a os)
-  step-loads n a os is h = by_test (goes S a) refl where
-    by_test : (b : Bool) → goes S a ≡ b → AreLoads (if b then origins_by S a os (need_of S.program S.decl S.fuel a.state) (instr_within S.program S.fuel a.state) else os)
+  step-loads n a os is h = by_test (makes_one S a) refl where
+    by_test : (b : Bool) → makes_one S a ≡ b → AreLoads (if b then origins_by S a os (need_of S.program S.decl S.fuel a.state) (instr_within S.program S.fuel a.state) else os)
     by_test true e = by-loads n a os (comes-to n a is e) h (need_of S.program S.decl S.fuel a.state) refl (instr_within S.program S.fuel a.state)
     by_test false e = h
 
@@ -258,7 +258,7 @@ module _ (S : Setup) where
     i : Option Instr
     i = instr_within S.program S.fuel (alone S).state
 
-    by_origin : (r : ℕ) → first_open (alone S).kinds i ≡ Some r → (alone S).state.end ≡ None → (o : Option Read) → origin_of (origins_alone S) r ≡ o
+    by_origin : (r : ℕ) → first_open (alone S).kinds i ≡ Some r → (alone S).state.end ≡ None → (o : Option Read) → origin_read (origins_alone S) r ≡ o
         → option_map (λ (read : Read). the_dependence r read) o ≡ Some d → IsDependence S d
     by_origin r is runs None from f = absurd (none-some d f)
     by_origin r is runs (Some read) from f =
@@ -267,7 +267,7 @@ module _ (S : Setup) where
 
     by_register : (o : Option ℕ) → first_open (alone S).kinds i ≡ o → (alone S).state.end ≡ None → depends_on (origins_alone S) o ≡ Some d → IsDependence S d
     by_register None is runs f = absurd (none-some d f)
-    by_register (Some r) is runs f = by_origin r is runs (origin_of (origins_alone S) r) refl f
+    by_register (Some r) is runs f = by_origin r is runs (origin_read (origins_alone S) r) refl f
 
     by_end : (b : Bool) → is_none (alone S).state.end ≡ b → (if b then depends_on (origins_alone S) (first_open (alone S).kinds i) else None) ≡ Some d → IsDependence S d
     by_end true is f = by_register (first_open (alone S).kinds i) refl (none-end (alone S).state.end is) f
@@ -278,7 +278,7 @@ module _ (S : Setup) where
   abbrev AreAcquires : List Taking → Type 0
   AreAcquires ts = (i : ℕ) (t : Taking) → slice_get ts i ≡ Some t → IsAcquireOf S t
 
-  by-acquires : (n : ℕ) (a : Alone) → ComesTo S n a → (d : Need) → need_of S.program S.decl S.fuel a.state ≡ d → AreAcquires (taken_by S a d)
+  by-acquires : (n : ℕ) (a : Alone) → ComesTo S n a → (d : Need) → need_of S.program S.decl S.fuel a.state ≡ d → AreAcquires (taking_by S a d)
   by-acquires n a comes (need.TheVariants.Acquire lock) e zero t f =
       subst (IsAcquireOf S) (same_Some (record { core = S.decl.core; pc = a.state.pc; lock = lock; held = a.state.held }) t f)
       (record { steps = n; before = a; comes = comes; acquires = e; here = refl; holds = refl; own = refl })
@@ -290,8 +290,8 @@ module _ (S : Setup) where
   by-acquires n a comes (need.TheVariants.End by) e i t f = absurd (none-some t f)
 
   at-acquires : (n : ℕ) (a : Alone) → a ≡ alone_steps S n (start_alone S) → AreAcquires (taken_at S a)
-  at-acquires n a is = by_test (goes S a) refl where
-    by_test : (b : Bool) → goes S a ≡ b → AreAcquires (if b then taken_by S a (need_of S.program S.decl S.fuel a.state) else [])
+  at-acquires n a is = by_test (makes_one S a) refl where
+    by_test : (b : Bool) → makes_one S a ≡ b → AreAcquires (if b then taking_by S a (need_of S.program S.decl S.fuel a.state) else [])
     by_test true e = by-acquires n a (comes-to n a is e) (need_of S.program S.decl S.fuel a.state) refl
     by_test false e = λ i t f. absurd (none-some t f)
 
@@ -377,7 +377,7 @@ module _ (P : ProgramParts) (fuel : ℕ) (p : Phase) (first : List Value) where
     by_later None is f rest = record { place = 0; taking = t; there = refl; is = named-by rs s t named f }
     by_later (Some x) is f rest = let h = rest (is ∙ f) in record { place = suc h.place; taking = h.taking; there = h.there; is = h.is }
 
-  pub named-taken : (rs : List Summary) (s : Sought) (named : Taken) → last_sought rs s (takings_in P fuel p first) ≡ Some named → IsTakenIn P fuel p first named
+  pub named-taken : (rs : List Summary) (s : Sought) (named : Taken) → last_sought rs s (takings_in P fuel p first) ≡ Some named → IsMadeIn P fuel p first named
   named-taken rs s named e =
       let h = last-named rs s (takings_in P fuel p first) named e in
       let of' = all-of_some p.tasks h.place h.taking h.there in

@@ -26,43 +26,43 @@ use Rattle.outcomes_top.specs.declared.reasons.Sought.{Sought}
 use Rattle.outcomes_top.specs.declared.reasons.Taken.{Taken}
 use Rattle.outcomes_top.specs.declared.reasons.Taking.{Taking}
 use Rattle.outcomes_top.specs.Effects.{without_words}
-use Rattle.outcomes_top.specs.Reasons.{goes, origins_by, origins_step, origins_from, taken_by, taken_at, takings_from, AreRows, sought_in, last_sought, reason_in, reason_by, reason_from, reason_after}
+use Rattle.outcomes_top.specs.Reasons.{makes_one, origins_by, origins_step, origins_from, taking_by, taken_at, takings_from, AreRows, sought_in, last_sought, reason_in, reason_by, reason_from, reason_after}
 use Rattle.outcomes_top.proofs.PhaseLemmas.{AreOutlines, HasOutlines, are-bare, leads-same, opens-so, well-so, memory-after}
 
 -- ---- one instruction
 
--- a task that hasn't ended, and of which control is settled, goes on
-pub goes-true : (S : Setup) (a : Alone) (next : Next) → a.state.end ≡ None → IsNextOf S.program S.decl S.fuel a.state next → is_settled_if a.kinds a.state next.instr ≡ true → goes S a ≡ true
+-- a task that hasn't ended, and of which control is settled, makes_one on
+pub goes-true : (S : Setup) (a : Alone) (next : Next) → a.state.end ≡ None → IsNextOf S.program S.decl S.fuel a.state next → is_settled_if a.kinds a.state next.instr ≡ true → makes_one S a ≡ true
 goes-true S a next runs look settled =
     let found : next.instr ≡ instr_within S.program S.fuel a.state = ap (λ (x : Next). x.instr) look in
     ap (λ (o : Option End). is_none o && is_settled_next S a) runs ∙ (ap (is_settled_if a.kinds a.state) (sym found) ∙ settled)
 
-pub origins-so : (S : Setup) (a : Alone) (next : Next) (os : List (Option Read)) → goes S a ≡ true → IsNextOf S.program S.decl S.fuel a.state next → origins_by S a os next.need next.instr ≡ origins_step S a os
+pub origins-so : (S : Setup) (a : Alone) (next : Next) (os : List (Option Read)) → makes_one S a ≡ true → IsNextOf S.program S.decl S.fuel a.state next → origins_by S a os next.need next.instr ≡ origins_step S a os
 origins-so S a next os is look =
     ap (λ (x : Next). origins_by S a os x.need x.instr) look
     ∙ sym (ap (λ (b : Bool). if b then origins_by S a os (need_of S.program S.decl S.fuel a.state) (instr_within S.program S.fuel a.state) else os) is)
 
-pub taken-so : (S : Setup) (a : Alone) (next : Next) → goes S a ≡ true → IsNextOf S.program S.decl S.fuel a.state next → taken_by S a next.need ≡ taken_at S a
+pub taken-so : (S : Setup) (a : Alone) (next : Next) → makes_one S a ≡ true → IsNextOf S.program S.decl S.fuel a.state next → taking_by S a next.need ≡ taken_at S a
 taken-so S a next is look =
-    ap (λ (x : Next). taken_by S a x.need) look ∙ sym (ap (λ (b : Bool). if b then taken_by S a (need_of S.program S.decl S.fuel a.state) else []) is)
+    ap (λ (x : Next). taking_by S a x.need) look ∙ sym (ap (λ (b : Bool). if b then taking_by S a (need_of S.program S.decl S.fuel a.state) else []) is)
 
-pub origins-rest : (S : Setup) (a : Alone) (os : List (Option Read)) → goes S a ≡ false → origins_step S a os ≡ os
+pub origins-rest : (S : Setup) (a : Alone) (os : List (Option Read)) → makes_one S a ≡ false → origins_step S a os ≡ os
 origins-rest S a os is = ap (λ (b : Bool). if b then origins_by S a os (need_of S.program S.decl S.fuel a.state) (instr_within S.program S.fuel a.state) else os) is
 
-pub taken-rest : (S : Setup) (a : Alone) → goes S a ≡ false → taken_at S a ≡ []
-taken-rest S a is = ap (λ (b : Bool). if b then taken_by S a (need_of S.program S.decl S.fuel a.state) else []) is
+pub taken-rest : (S : Setup) (a : Alone) → makes_one S a ≡ false → taken_at S a ≡ []
+taken-rest S a is = ap (λ (b : Bool). if b then taking_by S a (need_of S.program S.decl S.fuel a.state) else []) is
 
-pub step-rest : (S : Setup) (a : Alone) → goes S a ≡ false → alone_step S a ≡ a
+pub step-rest : (S : Setup) (a : Alone) → makes_one S a ≡ false → alone_step S a ≡ a
 step-rest S a is = ap (λ (b : Bool). if b then alone_by S a (need_of S.program S.decl S.fuel a.state) else a) is
 
 -- ---- a task that rests
 
-pub origins-still : (S : Setup) (n : ℕ) (a : Alone) (os : List (Option Read)) → goes S a ≡ false → origins_from S n a os ≡ os
+pub origins-still : (S : Setup) (n : ℕ) (a : Alone) (os : List (Option Read)) → makes_one S a ≡ false → origins_from S n a os ≡ os
 origins-still S zero a os is = refl
 origins-still S (suc n) a os is =
     ap (λ (x : Alone). origins_from S n x (origins_step S a os)) (step-rest S a is) ∙ ap (origins_from S n a) (origins-rest S a os is) ∙ origins-still S n a os is
 
-pub takings-still : (S : Setup) (n : ℕ) (a : Alone) → goes S a ≡ false → takings_from S n a ≡ []
+pub takings-still : (S : Setup) (n : ℕ) (a : Alone) → makes_one S a ≡ false → takings_from S n a ≡ []
 takings-still S zero a is = refl
 takings-still S (suc n) a is =
     ap (λ (ts : List Taking). ts ++ takings_from S n (alone_step S a)) (taken-rest S a is) ∙ ap (takings_from S n) (step-rest S a is) ∙ takings-still S n a is

@@ -53,7 +53,7 @@ pub record IsAcquireOf (S : Setup) (t : Taking) : Type 0 where
   pub own : S.decl.core ≡ t.core
 
 -- the task of this core in the phase, alone, makes this acquire
-pub record IsTakenIn (P : ProgramParts) (fuel : ℕ) (p : Phase) (first : List Value) (t : Taken) : Type 0 where
+pub record IsMadeIn (P : ProgramParts) (fuel : ℕ) (p : Phase) (first : List Value) (t : Taken) : Type 0 where
   pub decl : TaskDecl
   pub among : IsAmong p.tasks decl
   pub taking : Taking

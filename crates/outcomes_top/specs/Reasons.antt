@@ -33,8 +33,8 @@ use Rattle.outcomes_top.specs.declared.reasons.Sought.TheVariants.{Own, Other, O
 use Rattle.outcomes_top.specs.declared.reasons.Reason.{Reason}
 
 -- whether the task alone makes one more instruction
-abbrev pub goes : Setup → Alone → Bool
-goes S a = is_none a.state.end && is_settled_next S a
+abbrev pub makes_one : Setup → Alone → Bool
+makes_one S a = is_none a.state.end && is_settled_next S a
 
 -- ---- where the value of a register comes from
 
@@ -51,20 +51,20 @@ read_of S a w =
     if is_known (seen S a.cells w).kind then None else Some (record { pc = a.state.pc; word = record { 0 = w }; lock = guard_of S.decl a.state.held w })
 
 -- for each register the load that its value comes from, if not all is known of it
-abbrev pub origin_of : List (Option Read) → ℕ → Option Read
-origin_of os r = if r == 0 then None else slice_index_or os r None
+abbrev pub origin_read : List (Option Read) → ℕ → Option Read
+origin_read os r = if r == 0 then None else slice_index_or os r None
 
-abbrev pub with_origin : List (Option Read) → ℕ → Option Read → List (Option Read)
-with_origin os rd o = if rd == 0 then os else slice_set os rd o
+abbrev pub written_origin : List (Option Read) → ℕ → Option Read → List (Option Read)
+written_origin os rd o = if rd == 0 then os else slice_set os rd o
 
 -- a result that is computed comes from where its first operand does, or else the second
 abbrev pub origins_after : List (Option Read) → Instr → List (Option Read)
-origins_after os (instr.TheVariants.Lui rd imm) = with_origin os rd None
-origins_after os (instr.TheVariants.Auipc rd imm) = with_origin os rd None
-origins_after os (instr.TheVariants.Jal rd offset) = with_origin os rd None
-origins_after os (instr.TheVariants.Jalr rd base offset) = with_origin os rd None
-origins_after os (instr.TheVariants.OpImm op rd a imm) = with_origin os rd (origin_of os a)
-origins_after os (instr.TheVariants.Op op rd a b) = with_origin os rd (option_or (origin_of os a) (origin_of os b))
+origins_after os (instr.TheVariants.Lui rd imm) = written_origin os rd None
+origins_after os (instr.TheVariants.Auipc rd imm) = written_origin os rd None
+origins_after os (instr.TheVariants.Jal rd offset) = written_origin os rd None
+origins_after os (instr.TheVariants.Jalr rd base offset) = written_origin os rd None
+origins_after os (instr.TheVariants.OpImm op rd a imm) = written_origin os rd (origin_read os a)
+origins_after os (instr.TheVariants.Op op rd a b) = written_origin os rd (option_or (origin_read os a) (origin_read os b))
 origins_after os _ = os
 
 abbrev pub origins_fetched : List (Option Read) → Option Instr → List (Option Read)
@@ -72,7 +72,7 @@ origins_fetched os None = os
 origins_fetched os (Some i) = origins_after os i
 
 abbrev pub origins_loaded : List (Option Read) → Option Read → Option Instr → List (Option Read)
-origins_loaded os o (Some (instr.TheVariants.Load width rd base offset)) = with_origin os rd o
+origins_loaded os o (Some (instr.TheVariants.Load width rd base offset)) = written_origin os rd o
 origins_loaded os o _ = os
 
 abbrev pub origins_by : Setup → Alone → List (Option Read) → Need → Option Instr → List (Option Read)
@@ -82,7 +82,7 @@ origins_by S a os _ i = origins_fetched os i
 
 abbrev pub origins_step : Setup → Alone → List (Option Read) → List (Option Read)
 origins_step S a os =
-    if goes S a then origins_by S a os (need_of S.program S.decl S.fuel a.state) (instr_within S.program S.fuel a.state) else os
+    if makes_one S a then origins_by S a os (need_of S.program S.decl S.fuel a.state) (instr_within S.program S.fuel a.state) else os
 
 abbrev pub origins_from : Setup → ℕ → Alone → List (Option Read) → List (Option Read)
 origins_from S zero a os = os
@@ -107,7 +107,7 @@ first_open kinds _ = None
 
 abbrev pub depends_on : List (Option Read) → Option ℕ → Option Dependence
 depends_on os None = None
-depends_on os (Some r) = option_map (λ (read : Read). record { register = r; read = read }) (origin_of os r)
+depends_on os (Some r) = option_map (λ (read : Read). record { register = r; read = read }) (origin_read os r)
 
 -- of a task whose control is open
 abbrev pub dependence_by : Setup → Alone → List (Option Read) → Option Dependence
@@ -124,12 +124,12 @@ dependence_among P fuel p first core (d ∷ ds) =
 
 -- ---- acquires
 
-abbrev pub taken_by : Setup → Alone → Need → List Taking
-taken_by S a (Acquire lock) = record { core = S.decl.core; pc = a.state.pc; lock = lock; held = a.state.held } ∷ []
-taken_by S a _ = []
+abbrev pub taking_by : Setup → Alone → Need → List Taking
+taking_by S a (Acquire lock) = record { core = S.decl.core; pc = a.state.pc; lock = lock; held = a.state.held } ∷ []
+taking_by S a _ = []
 
 abbrev pub taken_at : Setup → Alone → List Taking
-taken_at S a = if goes S a then taken_by S a (need_of S.program S.decl S.fuel a.state) else []
+taken_at S a = if makes_one S a then taking_by S a (need_of S.program S.decl S.fuel a.state) else []
 
 abbrev pub takings_from : Setup → ℕ → Alone → List Taking
 takings_from S zero a = []
@@ -194,7 +194,7 @@ reason_by (Some why) finished here later = Some (here why)
 reason_by None false here later = None
 reason_by None true here later = later
 
--- the phases from number `phase` on, as the answer goes
+-- the phases from number `phase` on, as the answer makes_one
 abbrev pub reason_from : ProgramParts → ℕ → ℕ → List Phase → List Value → Option Reason
 reason_from P fuel phase [] memory = None
 reason_from P fuel phase (p ∷ left) memory =

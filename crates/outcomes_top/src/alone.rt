@@ -1,10 +1,10 @@
-//! A task alone: it goes on from the memory at the beginning of its phase, as if no other task ran.
+//! A task alone: it makes_one on from the memory at the beginning of its phase, as if no other task ran.
 ghost use Rattle.std.specs.Prelude.{◌≡◌, ◌≤◌, ◌<◌, suc, None, map, length, IfOk, IfSome, IfNone, true, false};
 ghost use Rattle.rv_core.specs.Kinds.{Allowed, IsLoad, IsStore, IsAdvance};
 ghost use Rattle.rv_core.specs.Next.{IsNextOf};
 ghost use Rattle.rv_core.specs.Task.{stopped};
 ghost use Rattle.common_outcomes.specs.Alone.{seen, is_settled_if, stored_value, closed, go_on_alone, load_alone, store_alone, acquire_alone, release_alone, alone_step, alone_steps, start_alone, alone};
-ghost use Rattle.outcomes_top.specs.Reasons.{goes};
+ghost use Rattle.outcomes_top.specs.Reasons.{makes_one};
 ghost use Rattle.outcomes_top.specs.Tracks.{IsTracked, IsWell};
 
 use crate::cells::{Place, cell, close_all, close_listed};
@@ -72,7 +72,7 @@ impl TaskAlone {
         ensures locks { IfSome result (λ next. length place.now.program.locks ≤ 32) }
         ensures fuel { IfSome result (λ next. place.now.fuel ≤ 32768) }
         ensures none { IfNone result (alone_step place.now self.now ≡ self.now) }
-        ensures rests { IfNone result (goes place.now self.now ≡ false) }
+        ensures rests { IfNone result (makes_one place.now self.now ≡ false) }
     {
         if self.state.end.is_some() {
             return None;

@@ -26,7 +26,7 @@ ghost use Rattle.outcomes_top.specs.declared.reasons.Reason.{Reason};
 ghost use Rattle.outcomes_top.specs.declared.reasons.Sought.{Sought};
 ghost use Rattle.outcomes_top.specs.declared.reasons.Taken.{Taken};
 ghost use Rattle.outcomes_top.specs.Reasons.{dependence_of, takings_in, last_sought, reason_of};
-ghost use Rattle.outcomes_top.specs.ReasonLaws.{IsDependence, IsTakenIn};
+ghost use Rattle.outcomes_top.specs.ReasonLaws.{IsDependence, IsMadeIn};
 ghost use Rattle.outcomes_top.specs.Answers.{OutcomesReply, IsOutcomesAnswer, HasPrinted, settled_reply};
 ghost use Rattle.outcomes_top.specs.Beside.{StandsInAnswer};
 
@@ -78,5 +78,5 @@ pub fn a_named_register_decides_and_a_named_load_is_made()
 /// An acquire that is named is one that the task of its core makes alone, at its address.
 pub fn a_named_acquire_is_made()
     ensures { (P : ProgramParts) (fuel : ℕ) (p : Phase) (first : List Value) (rs : List Summary) (s : Sought) (t : Taken) → last_sought rs s (takings_in P fuel p first) ≡ Some t
-        → IsTakenIn P fuel p first t }
+        → IsMadeIn P fuel p first t }
 {}

@@ -2,7 +2,7 @@
 ghost use Rattle.std.specs.Prelude.{◌≡◌, ◌<◌, ◌≤◌};
 ghost use Rattle.std.specs.List.{find, range_with_len};
 ghost use Rattle.std.specs.Option.{option_or};
-ghost use Rattle.outcomes_top.specs.Reasons.{is_guard, read_of, origin_of, with_origin, origins_fetched, origins_loaded, origins_by, if_open, first_open};
+ghost use Rattle.outcomes_top.specs.Reasons.{is_guard, read_of, origin_read, written_origin, origins_fetched, origins_loaded, origins_by, if_open, first_open};
 
 use crate::alone::TaskAlone;
 use crate::cells::Place;
@@ -52,7 +52,7 @@ fn read_of(place: &Place<'_>, task: &TaskAlone, word: WordId) -> Option<Read>
 
 /// The load that the value of a register comes from, if not all is known of it.
 pub(crate) fn origin(origins: &[Option<Read>; 32], register: u32) -> Option<Read>
-    ensures { result ≡ origin_of origins.now register }
+    ensures { result ≡ origin_read origins.now register }
 {
     if register == 0 {
         return None;
@@ -65,7 +65,7 @@ pub(crate) fn origin(origins: &[Option<Read>; 32], register: u32) -> Option<Read
 
 /// Notes the load that the value of a register comes from, which is written.
 fn set_origin(origins: &mut [Option<Read>; 32], register: Reg, read: Option<Read>)
-    ensures { origins.new ≡ with_origin origins.old register read }
+    ensures { origins.new ≡ written_origin origins.old register read }
 {
     let number = register.number() as usize;
     if number != 0 {

@@ -1,7 +1,7 @@
 //! A task alone once more, with where the values of its registers come from, and where it acquires its locks.
 ghost use Rattle.std.specs.Prelude.{◌≡◌, ◌++◌, suc, false, IfOk, OnOk};
 ghost use Rattle.common_outcomes.specs.Alone.{alone, alone_step, alone_steps};
-ghost use Rattle.outcomes_top.specs.Reasons.{goes, origins_step, origins_from, origins_alone, depends_on, dependence_by, taken_by, taken_at, takings_from, takings_of};
+ghost use Rattle.outcomes_top.specs.Reasons.{makes_one, origins_step, origins_from, origins_alone, depends_on, dependence_by, taking_by, taken_at, takings_from, takings_of};
 ghost use Rattle.outcomes_top.specs.Tracks.{IsTracked, IsWell};
 
 use crate::alone::{TaskAlone, Tracked};
@@ -19,7 +19,7 @@ fn note_taking(
     task: &TaskAlone,
     need: Need,
 ) -> Result<(), Memory>
-    ensures { OnOk result (takings.new.items ≡ takings.old.items ++ taken_by place.now task.now need) }
+    ensures { OnOk result (takings.new.items ≡ takings.old.items ++ taking_by place.now task.now need) }
 {
     if let Need::Acquire { lock } = need {
         takings.push(Taking {
@@ -58,7 +58,7 @@ impl Watched {
         requires well { IsWell place.now self.old.tracked.task }
         requires tracked { IsTracked place.now self.old.tracked.task.cells self.old.tracked.listed.items }
         ensures value { IfOk result (λ went. self.new.tracked.task ≡ alone_step place.now self.old.tracked.task) }
-        ensures still { IfOk result (λ went. went ≡ false → goes place.now self.old.tracked.task ≡ false) }
+        ensures still { IfOk result (λ went. went ≡ false → makes_one place.now self.old.tracked.task ≡ false) }
         ensures well { IfOk result (λ went. IsWell place.now self.new.tracked.task) }
         ensures tracked { IfOk result (λ went. IsTracked place.now self.new.tracked.task.cells self.new.tracked.listed.items) }
         ensures origins { IfOk result (λ went. self.new.origins ≡ origins_step place.now self.old.tracked.task self.old.origins) }
