@@ -179,7 +179,7 @@ module _ (S : Setup) where
   loaded-loads os read (Some instr.TheVariants.Ecall) h k = h
   loaded-loads os read (Some instr.TheVariants.Ebreak) h k = h
 
-  -- a task that makes_one on
+  -- a task that goes on
   none-end : (o : Option End) → is_none o ≡ true → o ≡ None
   none-end None e = refl
   none-end (Some by) e = absurd (false≢true e)

@@ -31,7 +31,7 @@ use Rattle.outcomes_top.proofs.PhaseLemmas.{AreOutlines, HasOutlines, are-bare, 
 
 -- ---- one instruction
 
--- a task that hasn't ended, and of which control is settled, makes_one on
+-- a task that hasn't ended, and of which control is settled, goes on
 pub goes-true : (S : Setup) (a : Alone) (next : Next) → a.state.end ≡ None → IsNextOf S.program S.decl S.fuel a.state next → is_settled_if a.kinds a.state next.instr ≡ true → makes_one S a ≡ true
 goes-true S a next runs look settled =
     let found : next.instr ≡ instr_within S.program S.fuel a.state = ap (λ (x : Next). x.instr) look in

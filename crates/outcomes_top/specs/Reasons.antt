@@ -194,7 +194,7 @@ reason_by (Some why) finished here later = Some (here why)
 reason_by None false here later = None
 reason_by None true here later = later
 
--- the phases from number `phase` on, as the answer makes_one
+-- the phases from number `phase` on, as the answer goes
 abbrev pub reason_from : ProgramParts → ℕ → ℕ → List Phase → List Value → Option Reason
 reason_from P fuel phase [] memory = None
 reason_from P fuel phase (p ∷ left) memory =

@@ -1,4 +1,4 @@
-//! A task alone: it makes_one on from the memory at the beginning of its phase, as if no other task ran.
+//! A task alone: it goes on from the memory at the beginning of its phase, as if no other task ran.
 ghost use Rattle.std.specs.Prelude.{◌≡◌, ◌≤◌, ◌<◌, suc, None, map, length, IfOk, IfSome, IfNone, true, false};
 ghost use Rattle.rv_core.specs.Kinds.{Allowed, IsLoad, IsStore, IsAdvance};
 ghost use Rattle.rv_core.specs.Next.{IsNextOf};
