@@ -1,8 +1,8 @@
 -- What a reason names is so: the register, the load, and the acquires.
-use Rattle.std.proofs.Common.{◌≡◌, ◌⊎◌, inl, inr, ℕ, zero, suc, ◌+◌, ◌<◌, ◌==◌, Bool, true, false, ◌&&◌, not, if◌then◌else◌, List, [], ◌∷◌, ◌++◌, map, flat_map, replicate, slice_get, slice_index_or, slice_set, Option, Some, None, is_none, refl, sym, ap, ◌∙◌, subst, arith, ⊎_elim}
+use Rattle.std.proofs.Common.{◌≡◌, ◌⊎◌, inl, inr, ℕ, zero, suc, ◌+◌, ◌==◌, Bool, true, false, ◌&&◌, not, if◌then◌else◌, List, [], ◌∷◌, ◌++◌, map, flat_map, replicate, slice_get, slice_index_or, slice_set, Option, Some, None, is_none, refl, sym, ap, ◌∙◌, subst, arith, ⊎_elim}
 use Rattle.std.specs.List.{IsAmong, find, list_all}
 use Rattle.std.specs.Option.{option_or, option_map}
-use Rattle.std.proofs.lemmas.Bool.{false≢true, true≢false, and_parts}
+use Rattle.std.proofs.lemmas.Bool.{false≢true, and_parts}
 use Rattle.std.proofs.lemmas.Option.{none-some, same_Some}
 use Rattle.region_table.specs.Program.{ProgramParts}
 use Rattle.region_table.specs.declared.declared.TaskDecl.{TaskDecl}
@@ -35,7 +35,7 @@ use Rattle.outcomes_top.specs.declared.reasons.Sought.{Sought}
 use Rattle.outcomes_top.specs.declared.reasons.Sought.TheVariants.{Own, Other, Onward, Back}
 use Rattle.outcomes_top.specs.declared.reasons.Taken.{Taken}
 use Rattle.outcomes_top.specs.declared.reasons.Taking.{Taking}
-use Rattle.outcomes_top.specs.Reasons.{makes_one, guard_of, read_of, origin_read, written_origin, origins_after, origins_fetched, origins_loaded, origins_by, origins_step, origins_from, origins_alone, if_open, first_open, depends_on, dependence_of, taking_by, taken_at, takings_from, takings_of, takings_in, holds, is_way, taken, sought_in, last_sought, reason_in, reason_by, reason_from, reason_of}
+use Rattle.outcomes_top.specs.Reasons.{makes_one, guard_of, read_of, origin_read, written_origin, origins_fetched, origins_loaded, origins_by, origins_step, origins_from, origins_alone, if_open, first_open, depends_on, dependence_of, taking_by, taken_at, takings_from, takings_of, takings_in, holds, is_way, taken, sought_in, last_sought, reason_in, reason_by, reason_from, reason_of}
 use Rattle.outcomes_top.specs.ReasonLaws.{ComesTo, IsLoadOf, IsDependence, IsAcquireOf, IsMadeIn}
 
 -- ---- the answer is open for this reason
@@ -296,7 +296,7 @@ module _ (S : Setup) where
     by_test false e = λ i t f. absurd (none-some t f)
 
   both-acquires : (xs ys : List Taking) → AreAcquires xs → AreAcquires ys → AreAcquires (xs ++ ys)
-  both-acquires [] ys h k = k
+  both-acquires [] ys h k i t e = k i t e
   both-acquires (x ∷ xs) ys h k zero t e = h zero t e
   both-acquires (x ∷ xs) ys h k (suc i) t e = both-acquires xs ys (λ j. h (suc j)) k i t e
 

@@ -1,15 +1,13 @@
 -- A task alone that is watched, acquires that are sought, and the reason of a phase.
-use Rattle.std.proofs.Common.{◌≡◌, ℕ, zero, suc, ◌+◌, ◌-◌, ◌<◌, Bool, true, false, ◌&&◌, if◌then◌else◌, List, [], ◌∷◌, ◌++◌, length, drop, get_or, slice_index, Option, Some, None, is_none, refl, sym, ap, ◌∙◌, subst, arith, append_assoc}
+use Rattle.std.proofs.Common.{◌≡◌, ℕ, zero, suc, ◌+◌, ◌-◌, ◌<◌, Bool, true, false, ◌&&◌, if◌then◌else◌, List, [], ◌∷◌, ◌++◌, length, drop, get_or, slice_index, Option, Some, None, is_none, refl, sym, ap, ◌∙◌, subst, arith}
 use Rattle.std.specs.List.{list_all}
 use Rattle.std.specs.Option.{option_or}
-use Rattle.std.proofs.lemmas.List.{append-nil, drop_more}
+use Rattle.std.proofs.lemmas.List.{drop_more}
 use Rattle.region_table.specs.Program.{ProgramParts}
 use Rattle.region_table.specs.declared.declared.Phase.{Phase}
-use Rattle.rv_isa.specs.declared.instr.Instr.{Instr}
 use Rattle.rv_core.specs.Need.{need_of}
 use Rattle.rv_core.specs.Next.{instr_within, IsNextOf}
 use Rattle.rv_core.specs.Access.{is_held}
-use Rattle.rv_core.specs.declared.need.Need.{Need}
 use Rattle.rv_core.specs.declared.need.Next.{Next}
 use Rattle.rv_core.specs.declared.task.End.{End}
 use Rattle.common_outcomes.specs.declared.value.Value.{Value}
@@ -19,13 +17,13 @@ use Rattle.common_outcomes.specs.Alone.{Setup, Alone, is_settled_if, is_settled_
 use Rattle.common_outcomes.specs.Phases.{Summary, summaries, after_from, leads, leads_to}
 use Rattle.common_outcomes.specs.Answer.{open_of, has_ended_well}
 use Rattle.rv_core.specs.declared.ending.TaskEnd.{TaskEnd}
+use Rattle.outcomes_top.specs.declared.phase.Progress.{Progress}
 use Rattle.outcomes_top.specs.declared.phase.Progress.TheVariants.{Over, Goes, Open as IsOpen}
 use Rattle.outcomes_top.specs.declared.reasons.Read.{Read}
 use Rattle.outcomes_top.specs.declared.reasons.Reason.{Reason}
 use Rattle.outcomes_top.specs.declared.reasons.Sought.{Sought}
 use Rattle.outcomes_top.specs.declared.reasons.Taken.{Taken}
 use Rattle.outcomes_top.specs.declared.reasons.Taking.{Taking}
-use Rattle.outcomes_top.specs.Effects.{without_words}
 use Rattle.outcomes_top.specs.Reasons.{makes_one, origins_by, origins_step, origins_from, taking_by, taken_at, takings_from, AreRows, sought_in, last_sought, reason_in, reason_by, reason_from, reason_after}
 use Rattle.outcomes_top.proofs.PhaseLemmas.{AreOutlines, HasOutlines, are-bare, leads-same, opens-so, well-so, memory-after}
 
@@ -122,3 +120,12 @@ reason-goes P fuel n p left ends now first after all effects h true is =
     ap (reason_from P fuel (n + 1) left) (memory-after (summaries P fuel p first) effects first after h.count h.words h.effects_are h.each)
     ∙ reason-shut P fuel n p left ends now first after all effects h true is
 reason-goes P fuel n p left ends now first after all effects h false is = reason-shut P fuel n p left ends now first after all effects h false is
+
+-- one more phase of the program
+pub reason-step : (P : ProgramParts) (fuel n : ℕ) (items : List Phase) (p : Phase) (progress : Progress) (before after : List Value) (all : Option Reason) → items ≡ P.phases → n < length items
+    → p ≡ get_or items n p → ((left : List Phase) → reason_after progress P fuel n p left after ≡ reason_from P fuel n (p ∷ left) before)
+    → reason_from P fuel n (drop n P.phases) before ≡ all → reason_after progress P fuel n p (drop (n + 1) P.phases) after ≡ all
+reason-step P fuel n items p progress before after all are within is step leads =
+    let next : drop n items ≡ p ∷ drop (n + 1) items = drop_more items n p within ∙ ap (λ (x : Phase). x ∷ drop (n + 1) items) (sym is) in
+    let here : drop n P.phases ≡ p ∷ drop (n + 1) P.phases = subst (λ (ps : List Phase). drop n ps ≡ p ∷ drop (n + 1) ps) are next in
+    step (drop (n + 1) P.phases) ∙ ap (λ (ps : List Phase). reason_from P fuel n ps before) (sym here) ∙ leads

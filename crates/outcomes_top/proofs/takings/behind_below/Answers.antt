@@ -1,6 +1,5 @@
-use Rattle.std.proofs.Common.{ℕ, Bool, ◌&&◌, List, sym, ◌∙◌}
+use Rattle.std.proofs.Common.{ℕ, Bool, ◌&&◌, sym, ◌∙◌}
 use Rattle.rv_core.specs.Access.{is_held}
-use Rattle.common_outcomes.specs.Phases.{Summary}
 use Rattle.outcomes_top.specs.Reasons.{is_way}
 use Rattle.outcomes_top.proofs.LockLemmas.{find-hit, find-miss, find-end}
 use Rattle.outcomes_top.proofs.takings.behind_below.Goals as goal
