@@ -56,12 +56,10 @@ record HasSomeRun (P : ProgramParts) (fuel : ℕ) : Type 0 where
   run : flat_end P fuel grants ≡ Some end'
 
 some-run : (P : ProgramParts) (fuel : ℕ) → HasSomeRun P fuel
-some-run P fuel = by_end (flat_end P fuel least.0) refl (least-has_run P fuel least.0 least.1) where
-  least = least-exists P fuel
-
-  by_end : (o : Option FlatEnd) → flat_end P fuel least.0 ≡ o → flat_end P fuel least.0 ≢ None → HasSomeRun P fuel
+some-run P fuel = by_end (flat_end P fuel (least-exists P fuel).0) refl (least-has_run P fuel (least-exists P fuel).0 (least-exists P fuel).1) where
+  by_end : (o : Option FlatEnd) → flat_end P fuel (least-exists P fuel).0 ≡ o → flat_end P fuel (least-exists P fuel).0 ≢ None → HasSomeRun P fuel
   by_end None is some = absurd (some is)
-  by_end (Some e) is some = record { grants = least.0; end' = e; run = is }
+  by_end (Some e) is some = record { grants = (least-exists P fuel).0; end' = e; run = is }
 
 -- ---- the words that are known
 

@@ -120,7 +120,7 @@ open-at P fuel n (p ∷ left) ends memory why stand e =
 
 answer-open : (P : ProgramParts) (fuel : ℕ) (why : Open) → outcomes P fuel ≡ answer.TheVariants.Open why → IsOpenAt P fuel why
 unfolding outcomes
-answer-open P fuel why e = open-at P fuel 0 P.phases [] (map known P.memory) why (λ i. refl) e
+answer-open P fuel why e = open-at P fuel 0 P.phases [] (map known P.memory) why (λ i. let same : 0 + i ≡ i = omega arith in ap (slice_get P.phases) same) e
 
 -- ---- its line
 
