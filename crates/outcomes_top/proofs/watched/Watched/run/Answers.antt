@@ -1,5 +1,5 @@
 use Rattle.std.proofs.Common.{◌≡◌, ℕ, ◌+◌, ◌-◌, ◌<◌, false, suc, List, ◌++◌, sym, ap, ◌∙◌, arith, append_assoc}
-use Rattle.common_outcomes.specs.Alone.{Alone, alone_step, alone_steps}
+use Rattle.common_outcomes.specs.Alone.{Setup, Alone, alone_step, alone_steps}
 use Rattle.common_outcomes.proofs.Phase.{still}
 use Rattle.outcomes_top.specs.declared.reasons.Taking.{Taking}
 use Rattle.outcomes_top.specs.Reasons.{makes_one, origins_from, taken_at, takings_from}
@@ -54,7 +54,8 @@ loop-done-preserved c =
     let ts = c.loop-done.self.takings.items in
     let d = c.loop-done._done in
     let test = c.loop-done-test.true in
-    let low : d < suc S.fuel = omega (arith, test) in
+    let same : c.place.inside.fuel ≡ S.fuel = ap (λ (x : Setup). x.fuel) c.place.view_is in
+    let low : d < suc S.fuel = omega (arith, test, same) in
     let k = suc S.fuel - (d + 1) in
     let next : suc S.fuel - d ≡ suc k = omega (arith, low) in
     record {
