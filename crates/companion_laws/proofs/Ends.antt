@@ -136,7 +136,7 @@ module _ (text : List ℕ) (l : Located) (at' : IsLocated text l) where
 
     -- ---- the data words
 
-    word-lines : (w : ℕ) (values : List ℕ) → AreBelow (2 ^ 32) values → w + length values ≤ length P.memory → All (IsLineOf l) (shown_words w values)
+    pub word-lines : (w : ℕ) (values : List ℕ) → AreBelow (2 ^ 32) values → w + length values ≤ length P.memory → All (IsLineOf l) (shown_words w values)
     word-lines w [] small few = All-nil (IsLineOf l)
     word-lines w (v ∷ vs) small few =
         All-append (IsLineOf l) (if v == 0 then [] else line.TheVariants.Word w v ∷ []) (shown_words (w + 1) vs) (by_test (v == 0) refl)
@@ -211,7 +211,7 @@ module _ (text : List ℕ) (l : Located) (at' : IsLocated text l) where
       started-all : All (IsOfProgram P fuel) (all_tasks last.last)
       started-all = All-append (IsOfProgram P fuel) last.last.past last.last.tasks kept-all.past kept-all.tasks
 
-      memory-of : IsMemoryOf P e.ending.memory
+      pub memory-of : IsMemoryOf P e.ending.memory
       memory-of = subst (IsMemoryOf P) (sym last.memory) kept-all.memory
 
       -- no more tasks than the program has
@@ -239,15 +239,17 @@ module _ (text : List ℕ) (l : Located) (at' : IsLocated text l) where
       pub grant-lines-of : All (IsLineOf l) (map line.TheVariants.Grant gs)
       grant-lines-of = All-map (IsLineOf l) line.TheVariants.Grant gs (grants-from [] gs last.last last.leads)
 
+      pub task-lines-of : All (IsLineOf l) (map line.TheVariants.Task (map task_seen e.ending.tasks))
+      task-lines-of = subst (λ (ts : List TaskEnd). All (IsLineOf l) (map line.TheVariants.Task ts)) (sym shown-tasks) (task-lines (all_tasks last.last) started-all)
+
       pub ending-lines-of : All (IsLineOf l) (ending_lines (ending_seen e.ending))
       ending-lines-of =
-          let tasks = subst (λ (ts : List TaskEnd). All (IsLineOf l) (map line.TheVariants.Task ts)) (sym shown-tasks) (task-lines (all_tasks last.last) started-all) in
           let words = word-lines 0 e.ending.memory memory-of.small (omega (arith, memory-of.words)) in
           let size = line.TheVariants.Count count.TheVariants.Words (length e.ending.memory) in
           let behind = All-cons (IsLineOf l) size (shown_words 0 e.ending.memory) size-line words in
           All-cons (IsLineOf l) (line.TheVariants.Outcome e.ending.outcome) (map line.TheVariants.Task (map task_seen e.ending.tasks) ++ size ∷ shown_words 0 e.ending.memory)
           (record { fits = tt; of = refl })
-          (All-append (IsLineOf l) (map line.TheVariants.Task (map task_seen e.ending.tasks)) (size ∷ shown_words 0 e.ending.memory) tasks behind)
+          (All-append (IsLineOf l) (map line.TheVariants.Task (map task_seen e.ending.tasks)) (size ∷ shown_words 0 e.ending.memory) task-lines-of behind)
 
       -- the summary
       pub summary-lines-of : All (IsLineOf l) (summary_lines e.ending)

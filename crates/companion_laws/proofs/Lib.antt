@@ -1,5 +1,7 @@
 pub mod Agreeing
+mod AloneRuns
 mod Calls
+mod CommonAnswers
 mod CommonRuns
 mod Ends
 mod FuelNodes
@@ -10,6 +12,7 @@ mod HandedBack
 mod Holders
 mod Modes
 mod Named
+mod OpenAnswers
 mod Outputs
 mod Programs
 mod Ranges

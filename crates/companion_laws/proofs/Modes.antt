@@ -49,10 +49,10 @@ use Rattle.companion_laws.proofs.Programs.{proved-printed, size-printed}
 use Rattle.companion_laws.proofs.Refused.{IsRefusedOnce, is-taken, no-conflict, lines-of-checked, unfit-taken, no-program-taken, before-taken}
 
 -- a program in its text
-abbrev located : List ℕ → ProgramParts → Located
+abbrev pub located : List ℕ → ProgramParts → Located
 located text P = record { program = P; places = text_places text }
 
-is-located : (text : List ℕ) (P : ProgramParts) → source text ≡ Ok P → IsLocated text (located text P)
+pub is-located : (text : List ℕ) (P : ProgramParts) → source text ≡ Ok P → IsLocated text (located text P)
 is-located text P is = record { program = is; places = refl }
 
 -- the text of a document has no program that could be run, or its events are no run
@@ -65,7 +65,7 @@ out-bytes out other is = ap (λ (x : Output). x.bytes) is
 module _ (once : IsRefusedOnce) where
   -- ---- lines of a checked program
 
-  printed-taken : (text : List ℕ) (P : ProgramParts) → source text ≡ Ok P → IsChecked P → (bytes answer : List ℕ) → answer ≡ bytes → AreLines (located text P) bytes
+  pub printed-taken : (text : List ℕ) (P : ProgramParts) → source text ≡ Ok P → IsChecked P → (bytes answer : List ℕ) → answer ≡ bytes → AreLines (located text P) bytes
       → (e : Explained) → IsExplained text answer e → IsTaken e
   printed-taken text P is checked bytes answer same printed e h =
       lines-of-checked once text (located text P) (is-located text P is) checked answer (subst (AreLines (located text P)) (sym same) printed) e h

@@ -7,6 +7,7 @@ use Rattle.dn_top.specs.declared.output.Output.{Output}
 use Rattle.dn_top.specs.Answers.{IsAnswer}
 use Rattle.explained_answer.specs.declared.explaining.Explained.{Explained}
 use Rattle.explained_answer.specs.declared.explaining.Explained.TheVariants.{Text, Refused}
+use Rattle.explained_answer.specs.Explained.{IsExplained}
 use Rattle.explained_answer.specs.Verdicts.{explained_verdict}
 use Rattle.explain_top.specs.Answers.{Explanation, IsOutput, output_of, or_verdict}
 use Rattle.companion_laws.specs.Taken.{IsTaken, is_beside}
@@ -22,10 +23,14 @@ either-taken : (e verdict : Explained) → IsTaken e → IsTaken (or_verdict e v
 either-taken (Text bytes) verdict h = h
 either-taken (Refused number) verdict h = absurd h
 
+pub taken-done : (text bytes : List ℕ) (explanation : Explanation) → ((e : Explained) → IsExplained text bytes e → IsTaken e) → length bytes ≤ 536870912
+    → IsOutput text bytes explanation → explanation.status ≡ status.TheVariants.Done
+taken-done text bytes explanation taken few (inl h) =
+    ap (λ (x : Explanation). x.status) h.output
+    ∙ done-with h.explained (subst IsTaken (sym h.is.either) (either-taken h.is.by_denovo (explained_verdict text bytes) (taken h.is.by_denovo h.is.is)))
+taken-done text bytes explanation taken few (inr h) = let large = h.large in absurd (omega (arith, few, large))
+
 pub output-done : (once : IsRefusedOnce) (o : Options) (asked : List ℕ) (out : Output) (text : List ℕ) (explanation : Explanation) → OptionsInRange o → IsAnswer o asked out
     → is_beside o.mode asked text → length out.bytes ≤ 536870912 → IsOutput text out.bytes explanation → explanation.status ≡ status.TheVariants.Done
-output-done once o asked out text explanation range is beside few (inl h) =
-    ap (λ (x : Explanation). x.status) h.output
-    ∙ done-with h.explained
-    (subst IsTaken (sym h.is.either) (either-taken h.is.by_denovo (explained_verdict text out.bytes) (answer-taken once o asked out text h.is.by_denovo range is beside h.is.is)))
-output-done once o asked out text explanation range is beside few (inr h) = let large = h.large in absurd (omega (arith, few, large))
+output-done once o asked out text explanation range is beside few h =
+    taken-done text out.bytes explanation (λ e explained. answer-taken once o asked out text e range is beside explained) few h

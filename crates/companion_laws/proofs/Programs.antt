@@ -29,7 +29,7 @@ use Rattle.companion_laws.proofs.Ends.{number, program, has-task, phase-number, 
 use Rattle.companion_laws.proofs.Runs.{AreLines}
 use Rattle.companion_laws.proofs.Times.{one-line}
 
-some-there : {X : Type 0} (xs : List X) (i : ℕ) → i < length xs → is_some (slice_get xs i) ≡ true
+pub some-there : {X : Type 0} (xs : List X) (i : ℕ) → i < length xs → is_some (slice_get xs i) ≡ true
 some-there [] i within = absurd (omega (arith, within))
 some-there (x ∷ xs) zero within = refl
 some-there (x ∷ xs) (suc i) within = some-there xs i (omega (arith, within))

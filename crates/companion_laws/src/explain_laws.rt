@@ -1,6 +1,7 @@
-//! Theorems: what explain does with the answers of denovo, and whom it names as the holder of a lock. Their contracts state the
+//! Theorems: what explain does with the answers of denovo and of outcomes, and whom it names as the holder of a lock. Their contracts state the
 //! theorems.
 ghost use Rattle.std.specs.Prelude.{◌≡◌, ◌≤◌, ℕ, List, Some, length};
+ghost use Rattle.std.specs.Int.{IsInRange};
 ghost use Rattle.std.specs.List.{IsAmong};
 ghost use Rattle.dn_base.specs.declared.ids.Grant.{Grant};
 ghost use Rattle.dn_base.specs.declared.ids.LockId.{LockId};
@@ -24,6 +25,7 @@ ghost use Rattle.explained_answer.specs.declared.explaining.Explained.{Explained
 ghost use Rattle.explained_answer.specs.Explained.{IsLocated, HasNoConflict, IsExplained};
 ghost use Rattle.explain_top.specs.Answers.{Explanation, IsOutput};
 ghost use Rattle.text_places.specs.declared.places.Located.{Located};
+ghost use Rattle.outcomes_top.specs.Answers.{OutcomesReply, IsOutcomesAnswer};
 ghost use Rattle.companion_laws.specs.Holding.{HasHolder, IsReportExplained};
 ghost use Rattle.companion_laws.specs.Taken.{IsTaken, is_beside, IsCallTaken};
 
@@ -46,6 +48,20 @@ pub fn every_answer_of_denovo_is_taken()
         → is_beside o.mode asked text → length out.bytes ≤ MOST_OF_DOCUMENT → IsOutput text out.bytes explanation → explanation.status ≡ Done }
     ensures call { (words : List Text) (o : Options) (asked : List ℕ) (call : Call) → options_of words ≡ Some o → IsTextAnswered o asked call → IsCallTaken o asked call }
     ensures usage { (text : List ℕ) (e : Explained) → IsExplained text usage_line e → IsTaken e }
+{
+    // for the proof alone: a text is refused by one line, and not if its program is checked
+    the_output_is_a_function_of_source_and_options();
+}
+
+/// Explain takes every answer of outcomes, if it is given the answer and its text: what all runs have in common, with the words that
+/// may vary, why that is open, or the line that refuses the text. None of its lines is refused.
+///
+/// The clause `answer` says this of each answer to a fuel and a text. The clause `output` says of what `explain_top::answer` gives that
+/// its exit code is 0, if the answer has no more bytes than are looked at.
+pub fn every_answer_of_outcomes_is_taken()
+    ensures answer { (fuel : ℕ) (text : List ℕ) (out : OutcomesReply) (e : Explained) → IsInRange 1 32768 fuel → IsOutcomesAnswer fuel text out → IsExplained text out.bytes e → IsTaken e }
+    ensures output { (fuel : ℕ) (text : List ℕ) (out : OutcomesReply) (explanation : Explanation) → IsInRange 1 32768 fuel → IsOutcomesAnswer fuel text out
+        → length out.bytes ≤ MOST_OF_DOCUMENT → IsOutput text out.bytes explanation → explanation.status ≡ Done }
 {
     // for the proof alone: a text is refused by one line, and not if its program is checked
     the_output_is_a_function_of_source_and_options();

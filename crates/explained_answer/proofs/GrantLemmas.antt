@@ -16,6 +16,7 @@ use Rattle.explained_answer.specs.Holders.{is_of_lock, last_grant, AreLastGrants
 use Rattle.sentences.specs.declared.endings.Standstill.{Standstill}
 use Rattle.explained_answer.specs.declared.run_again.AgainRun.{AgainRun}
 use Rattle.explained_answer.specs.RunAgain.{standstill_on}
+use Rattle.explained_answer.specs.Reasons.{said_of_reason}
 use Rattle.explained_answer.specs.Lines.{has_task, has_named_lock, IsLineOf, line_read, lines_in, sentences_behind, explained_line}
 
 -- a grant of another lock is passed over, and one of the lock is its last
@@ -122,13 +123,14 @@ more-grants l read table after i d are within room so_far note =
 pub more-explained : (text : List ℕ) (l : Located) (read : List ReadLine) (again told : AgainRun) (i : ℕ) (d : ReadLine) (front before after : List ℕ) (still : Standstill) (named : Option TaskEnd)
     → i < length read → told ≡ again → still ≡ standstill_on told (lines_in read) (get_or read i d).line → named ≡ named_on (lines_in read) (get_or read i d).line
     → before ≡ front ++ flat_map (explained_line text l again (lines_in read)) (lines_in (take i read))
-    → after ≡ before ++ (answer_line (get_or read i d).line ++ sentences_behind text l still named (get_or read i d).line)
+    → after ≡ before ++ (answer_line (get_or read i d).line ++ sentences_behind text l still named (get_or read i d).line ++ said_of_reason text l told.why (get_or read i d).line)
     → after ≡ front ++ flat_map (explained_line text l again (lines_in read)) (lines_in (take (i + 1) read))
 more-explained text l read again told i d front before after still named within same stands names so_far said =
     let lines = lines_in read in
     let x = (get_or read i d).line in
     let said_before = flat_map (explained_line text l again lines) (lines_in (take i read)) in
-    said ∙ ap (λ (s : Standstill). before ++ (answer_line x ++ sentences_behind text l s named x)) (stands ∙ ap (λ (r : AgainRun). standstill_on r lines x) same)
-    ∙ ap (λ (n : Option TaskEnd). before ++ (answer_line x ++ sentences_behind text l (standstill_on again lines x) n x)) names
+    said ∙ ap (λ (r : AgainRun). before ++ (answer_line x ++ sentences_behind text l still named x ++ said_of_reason text l r.why x)) same
+    ∙ ap (λ (s : Standstill). before ++ (answer_line x ++ sentences_behind text l s named x ++ said_of_reason text l again.why x)) (stands ∙ ap (λ (r : AgainRun). standstill_on r lines x) same)
+    ∙ ap (λ (n : Option TaskEnd). before ++ (answer_line x ++ sentences_behind text l (standstill_on again lines x) n x ++ said_of_reason text l again.why x)) names
     ∙ ap (λ (bs : List ℕ). bs ++ explained_line text l again lines x) so_far ∙ append_assoc front said_before (explained_line text l again lines x)
     ∙ ap (λ (bs : List ℕ). front ++ bs) (sym (flat-more (explained_line text l again lines) read i d within))

@@ -8,6 +8,7 @@ pub mod Holders
 pub mod Lines
 pub mod Listing
 pub mod Parts
+pub mod Reasons
 pub mod RunAgain
 pub mod Several
 pub mod Trace

@@ -26,6 +26,7 @@ use Rattle.explained_answer.specs.declared.parsing.ReadAnswer as read_answer
 use Rattle.explained_answer.specs.Ended.{named_on, outcome_text, ended_holder_text}
 use Rattle.sentences.specs.declared.endings.Standstill.{Standstill}
 use Rattle.explained_answer.specs.declared.run_again.AgainRun.{AgainRun}
+use Rattle.explained_answer.specs.Reasons.{said_of_reason}
 use Rattle.explained_answer.specs.RunAgain.{answer_again, standstill_on}
 use Rattle.explained_answer.specs.Several.{answers_in}
 
@@ -66,10 +67,6 @@ unproven_at text task None = []
 abbrev pub unproven_text : List ℕ → Places → ℕ → ℕ → ℕ → List ℕ
 unproven_text text places phase core pc = unproven_at text (find (is_task_of phase core) places.tasks) (code_place_at places pc)
 
--- what can be done where it is open what the runs have in common
-unfoldable pub sweep_advice : List ℕ
-sweep_advice = codes "  `./sweep --form answers` runs the program by many seeds, and lists which answers came and how often.\n"
-
 -- a word that the order of grants may decide
 unfoldable pub varying_word : Located → ℕ → List ℕ
 varying_word l word = indent ++ word_text l.program.regions word ++ codes ": the order of grants may decide its value.\n"
@@ -79,7 +76,7 @@ control_warning = codes "  What it does may depend on the order of grants: a reg
 
 -- where the instruction stands at which control is open
 unfoldable pub control_text : List ℕ → Places → ℕ → ℕ → ℕ → List ℕ
-control_text text places phase core pc = unproven_text text places phase core pc ++ control_warning ++ sweep_advice
+control_text text places phase core pc = unproven_text text places phase core pc ++ control_warning
 
 unfoldable pub the_task : List ℕ
 the_task = codes "  The task"
@@ -104,12 +101,11 @@ stuck_warning = codes ": in some order of grants tasks may hold locks and wait f
 unfoldable pub held_text : Located → ℕ → ℕ → ℕ → List ℕ
 held_text l phase core lock =
     the_task ++ declared_by (find (is_task_of phase core) l.places.tasks) ++ while_it_holds ++ lock_text l.program.locks lock ++ held_warning
-    ++ sweep_advice
 
 -- the lock that is on a cycle, and what follows
 unfoldable pub stuck_text : Located → ℕ → List ℕ
 stuck_text l lock =
-    indent ++ lock_text l.program.locks lock ++ stuck_warning ++ sweep_advice
+    indent ++ lock_text l.program.locks lock ++ stuck_warning
 
 -- what is said after a line: for a task that didn't finish, why; for an instruction, where it stands; otherwise the names of
 -- words and locks. `still` has what is known of the line's task, if it waits or is out of fuel; `named` is the cause of an outcome, or
@@ -132,9 +128,10 @@ sentences_behind text l still named (line.TheVariants.OpenHeld phase core lock) 
 sentences_behind text l still named (line.TheVariants.OpenStuck phase lock) = stuck_text l lock
 sentences_behind text l still named (line.TheVariants.Fixed f) = []
 
--- a line of an answer that has these lines, and whose run tells this, and what is said after it
+-- a line of an answer that has these lines, and of which this is known besides, and what is said after it
 abbrev pub explained_line : List ℕ → Located → AgainRun → List AnswerLine → AnswerLine → List ℕ
-explained_line text l again lines x = answer_line x ++ sentences_behind text l (standstill_on again lines x) (named_on lines x) x
+explained_line text l again lines x =
+    answer_line x ++ sentences_behind text l (standstill_on again lines x) (named_on lines x) x ++ said_of_reason text l again.why x
 
 -- the lines of one answer, each with what is said after it. `again` is the program that is run once more for where the answer's tasks
 -- stand; without one, that isn't said

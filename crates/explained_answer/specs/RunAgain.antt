@@ -23,6 +23,7 @@ use Rattle.explained_answer.specs.declared.line.AnswerLine.{AnswerLine}
 use Rattle.explained_answer.specs.Ended.{answer_tasks}
 use Rattle.explained_answer.specs.Holders.{answer_grants, holder_on}
 use Rattle.explained_answer.specs.Acquires.{acquired_on}
+use Rattle.explained_answer.specs.Reasons.{reason_by_lines}
 
 -- a task that waits or is out of fuel: only of such a one it is said where it stands
 abbrev pub is_unfinished : TaskEnd → Bool
@@ -98,14 +99,14 @@ acquires_of_run P lines stops = acquires_with P (fuel_of (answer_tasks lines)) (
 
 -- ---- both
 
--- what the run of an answer tells besides its lines: where tasks stand, and the locks that they acquired
+-- what is known of an answer besides its lines: where tasks stand in its run, and the locks that they acquired; and why it is open
 abbrev pub run_again : ProgramParts → List AnswerLine → AgainRun
-run_again P lines = record { stops = stops_of_run P lines; acquires = acquires_of_run P lines (stops_of_run P lines) }
+run_again P lines = record { stops = stops_of_run P lines; acquires = acquires_of_run P lines (stops_of_run P lines); why = reason_by_lines P lines }
 
 -- the same, if the answer is run again
 abbrev pub answer_again : Option ProgramParts → List AnswerLine → AgainRun
 answer_again (Some P) lines = run_again P lines
-answer_again None lines = record { stops = []; acquires = [] }
+answer_again None lines = record { stops = []; acquires = []; why = None }
 
 -- the address of the next instruction of a task that stands so
 abbrev pub pc_of_end : List Stop → TaskEnd → Option ℕ

@@ -17,6 +17,7 @@ mod long;
 mod numbers;
 mod parsing;
 mod programs;
+mod reasons;
 mod refusals;
 mod run_again;
 mod several;

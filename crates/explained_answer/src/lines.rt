@@ -4,11 +4,14 @@ ghost use Rattle.sentences.specs.Endings.{place_behind};
 ghost use Rattle.sentences.specs.Told.{AreTold};
 ghost use Rattle.sentences.specs.Quotes.{AreSpans};
 ghost use Rattle.explained_answer.specs.AnswerLines.{answer_line};
-ghost use Rattle.explained_answer.specs.Lines.{named_word, named_lock, which_line, declared_there, task_there, the_instruction, at_its_place, instruction_there, unproven_text, sweep_advice, varying_word, control_warning, control_text, the_task, that_line, declared_by, while_it_holds, held_warning, stuck_warning, held_text, stuck_text, sentences_behind};
+ghost use Rattle.explained_answer.specs.Lines.{named_word, named_lock, which_line, declared_there, task_there, the_instruction, at_its_place, instruction_there, unproven_text, varying_word, control_warning, control_text, the_task, that_line, declared_by, while_it_holds, held_warning, stuck_warning, held_text, stuck_text, sentences_behind};
+ghost use Rattle.explained_answer.specs.Reasons.{said_of_reason};
 
 use crate::AnswerLine;
 use crate::causes::{push_ended_holder, push_outcome};
+use crate::reasons::push_reason;
 use dn_base::Memory;
+use outcomes_top::Reason;
 use rv_core::TaskEnd;
 use sentences::{Standstill, ToldEffects, code_place_at, push_ending, push_place_behind};
 use src_text::Span;
@@ -119,17 +122,6 @@ fn push_unproven(
     }
 }
 
-/// Adds what can be done where it is open what the runs have in common.
-#[tactic(auto, unfolding(crate::specs::Lines::sweep_advice))]
-fn push_sweep_advice(out: &mut Vec<u8>) -> Result<(), Memory>
-    ensures { OnOk result (out.new.items ≡ out.old.items ++ sweep_advice) }
-{
-    push(
-        out,
-        b"  `./sweep --form answers` runs the program by many seeds, and lists which answers came and how often.\n",
-    )
-}
-
 /// Adds the name of a word that the order of grants may decide.
 #[tactic(auto, unfolding(crate::specs::Lines::varying_word))]
 fn push_varying_word(out: &mut Vec<u8>, located: &Located, word: u32) -> Result<(), Memory>
@@ -164,8 +156,7 @@ fn push_control(
     ensures { OnOk result (out.new.items ≡ out.old.items ++ control_text text.now places.now task.0 task.1 pc) }
 {
     push_unproven(out, text, spans, places, task, pc)?;
-    push_control_warning(out)?;
-    push_sweep_advice(out)
+    push_control_warning(out)
 }
 
 #[tactic(auto, unfolding(crate::specs::Lines::the_task))]
@@ -235,8 +226,7 @@ fn push_held(
     push_declared_by(out, located.places.task(phase as usize, core))?;
     push_while_it_holds(out)?;
     push_lock(out, located.program.locks.as_slice(), lock as usize)?;
-    push_held_warning(out)?;
-    push_sweep_advice(out)
+    push_held_warning(out)
 }
 
 /// Adds which lock is on a cycle, and what follows.
@@ -246,8 +236,7 @@ fn push_stuck(out: &mut Vec<u8>, located: &Located, lock: u32) -> Result<(), Mem
 {
     push(out, b"  ")?;
     push_lock(out, located.program.locks.as_slice(), lock as usize)?;
-    push_stuck_warning(out)?;
-    push_sweep_advice(out)
+    push_stuck_warning(out)
 }
 
 /// Adds what is said after a line of an answer. `still` has what is known of the line's task, and `named` is the cause of an outcome,
@@ -300,7 +289,7 @@ fn push_sentences<'a>(
     }
 }
 
-/// Adds a line, which is written so, and what is said of it.
+/// Adds a line, which is written so, and what is said of it. `why` is the reason for which the answer is open.
 pub(crate) fn push_explained<'a>(
     out: &mut Vec<u8>,
     text: &[u8],
@@ -311,12 +300,14 @@ pub(crate) fn push_explained<'a>(
     written: &[u8],
     still: Standstill,
     named: Option<TaskEnd>,
+    why: Option<Reason>,
 ) -> Result<(), Memory>
     requires spans { AreSpans text.now spans.now }
     requires effects { AreTold text.now effects.now }
     requires written { written.now ≡ answer_line line }
-    ensures { OnOk result (out.new.items ≡ out.old.items ++ (answer_line line ++ sentences_behind text.now located.now still named line)) }
+    ensures { OnOk result (out.new.items ≡ out.old.items ++ (answer_line line ++ sentences_behind text.now located.now still named line ++ said_of_reason text.now located.now why line)) }
 {
     push(out, written)?;
-    push_sentences(out, text, spans, effects, located, line, still, named)
+    push_sentences(out, text, spans, effects, located, line, still, named)?;
+    push_reason(out, text, spans, located, why, line)
 }

@@ -22,9 +22,11 @@ use crate::AnswerLine;
 use crate::acquires::acquired_on;
 use crate::ended::{LastLines, holder_among, is_waiting};
 use crate::parsing::ReadLine;
+use crate::reasons::reason_by_lines;
 use dn_base::{Grant, Memory, Sequence};
 use effect_checker::{Checked, check};
 use flat_machine::{Acquire, flat_acquires};
+use outcomes_top::Reason;
 use rv_assembler::{SourceFault, assemble};
 use rv_core::{EndShown, TaskEnd};
 use sentences::{Standstill, Stop, stops};
@@ -293,13 +295,15 @@ fn acquires_of_run(
     acquires_within(alloc, checked, fuel_of(tasks.as_slice()), grants.as_slice())
 }
 
-/// What the run of an answer, which is made once more, tells besides its lines.
+/// What is known of an answer besides its lines, by its run, which is made once more, or by its tasks alone.
 #[derive(Drop)]
 pub(crate) struct AgainRun {
     /// Where the tasks stand; nothing if none of them waits or is out of fuel, or the run doesn't end as the answer says.
     pub(crate) stops: Sequence<Stop>,
     /// The locks that tasks acquired, in the order of the grants; nothing where there are no stops.
     pub(crate) acquires: Sequence<Acquire>,
+    /// Why the answer is open; None if no line says that it is.
+    pub(crate) why: Option<Reason>,
 }
 
 /// Runs this program once more for an answer with these lines.
@@ -308,7 +312,11 @@ fn run_again(alloc: Global, checked: &Checked, lines: &[ReadLine<'_>]) -> Result
 {
     let stops = stops_of_run(alloc, checked, lines)?;
     let acquires = acquires_of_run(alloc, checked, lines, stops.as_slice())?;
-    Ok(AgainRun { stops, acquires })
+    Ok(AgainRun {
+        stops,
+        acquires,
+        why: reason_by_lines(alloc, checked, lines)?,
+    })
 }
 
 /// What the run of an answer with these lines tells; nothing without a program that is run again.
@@ -324,6 +332,7 @@ pub(crate) fn answer_again(
         None => Ok(AgainRun {
             stops: Sequence::new(alloc),
             acquires: Sequence::new(alloc),
+            why: None,
         }),
     }
 }

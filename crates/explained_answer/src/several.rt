@@ -106,6 +106,7 @@ fn push_answer<'a>(
             read.written,
             still,
             named,
+            told.why,
         )?;
     }
     Ok(())

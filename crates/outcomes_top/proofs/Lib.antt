@@ -1,3 +1,4 @@
+pub mod BecauseLemmas
 pub mod BesideLemmas
 pub mod Commands
 pub mod LimitLemmas
@@ -6,6 +7,7 @@ pub mod LockLemmas
 pub mod MarkLemmas
 pub mod PhaseLemmas
 pub mod PrintedLemmas
+pub mod ReasonLemmas
 pub mod StepLemmas
 pub mod TrackLemmas
 pub mod ReadLemmas

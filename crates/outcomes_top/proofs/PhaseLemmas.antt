@@ -60,7 +60,7 @@ held-same n all (r ∷ rs) =
     ap (λ (o : Option ℕ). option_or (option_map (λ (l : ℕ). Held (record { 0 = n }) r.decl.core (record { 0 = l })) o) (first_held n (map without_words all) (map without_words rs))) (lock-same all r)
     ∙ ap (option_or (option_map (λ (l : ℕ). Held (record { 0 = n }) r.decl.core (record { 0 = l })) (held_lock all r))) (held-same n all rs)
 
-leads-same : (rs : List Summary) (n a b : ℕ) → leads (map without_words rs) n a b ≡ leads rs n a b
+pub leads-same : (rs : List Summary) (n a b : ℕ) → leads (map without_words rs) n a b ≡ leads rs n a b
 leads-same rs zero a b = any-map (λ (r : Summary). is_held (slice_index_or r.alone.over b 0) a) without_words rs
 leads-same rs (suc n) a b =
     ap (λ (x : Bool). x || (leads (map without_words rs) n a n && leads (map without_words rs) n n b)) (leads-same rs n a b)
@@ -189,10 +189,10 @@ goes-on P fuel n p left ends now first after h e =
 abbrev pub AreOutlines : ProgramParts → ℕ → Phase → List Value → List Summary → Type 0
 AreOutlines P fuel p first all = all ≡ map (outline_alone P fuel p first) p.tasks
 
-are-bare : (P : ProgramParts) (fuel : ℕ) (p : Phase) (first : List Value) (all : List Summary) → AreOutlines P fuel p first all → all ≡ map without_words (summaries P fuel p first)
+pub are-bare : (P : ProgramParts) (fuel : ℕ) (p : Phase) (first : List Value) (all : List Summary) → AreOutlines P fuel p first all → all ≡ map without_words (summaries P fuel p first)
 are-bare P fuel p first all is = is ∙ outlines P fuel p first
 
-opens-so : (P : ProgramParts) (fuel n : ℕ) (p : Phase) (first : List Value) (all : List Summary) (o : Option Open) → AreOutlines P fuel p first all → o ≡ open_of n all → open_of n (summaries P fuel p first) ≡ o
+pub opens-so : (P : ProgramParts) (fuel n : ℕ) (p : Phase) (first : List Value) (all : List Summary) (o : Option Open) → AreOutlines P fuel p first all → o ≡ open_of n all → open_of n (summaries P fuel p first) ≡ o
 opens-so P fuel n p first all o is found =
     sym (open-same n (summaries P fuel p first)) ∙ ap (open_of n) (sym (are-bare P fuel p first all is)) ∙ sym found
 
@@ -220,7 +220,7 @@ gone P fuel n p ends now first after all effects h =
       memory_now = memory-after rs effects first after h.count h.words h.effects_are h.each;
     }
 
-well-so : (P : ProgramParts) (fuel : ℕ) (p : Phase) (first : List Value) (all : List Summary) → AreOutlines P fuel p first all → list_all has_ended_well (summaries P fuel p first) ≡ list_all has_ended_well all
+pub well-so : (P : ProgramParts) (fuel : ℕ) (p : Phase) (first : List Value) (all : List Summary) → AreOutlines P fuel p first all → list_all has_ended_well (summaries P fuel p first) ≡ list_all has_ended_well all
 well-so P fuel p first all is = sym (well-same (summaries P fuel p first)) ∙ ap (list_all has_ended_well) (sym (are-bare P fuel p first all is))
 
 outlines-over : (P : ProgramParts) (fuel n : ℕ) (p : Phase) (left : List Phase) (ends now : List TaskEnd) (first after : List Value) (all : List Summary) (effects : List Effect)

@@ -4,6 +4,8 @@ pub mod Command
 pub mod Effects
 pub mod Marks
 pub mod Place
+pub mod ReasonLaws
+pub mod Reasons
 pub mod Status
 pub mod Text
 pub mod Tracks

@@ -4,6 +4,7 @@ ghost use Rattle.rv_core.specs.Kinds.{Allowed, IsLoad, IsStore, IsAdvance};
 ghost use Rattle.rv_core.specs.Next.{IsNextOf};
 ghost use Rattle.rv_core.specs.Task.{stopped};
 ghost use Rattle.common_outcomes.specs.Alone.{seen, is_settled_if, stored_value, closed, go_on_alone, load_alone, store_alone, acquire_alone, release_alone, alone_step, alone_steps, start_alone, alone};
+ghost use Rattle.outcomes_top.specs.Reasons.{makes_one};
 ghost use Rattle.outcomes_top.specs.Tracks.{IsTracked, IsWell};
 
 use crate::cells::{Place, cell, close_all, close_listed};
@@ -37,7 +38,7 @@ impl Model for TaskAlone {
 
 impl TaskAlone {
     /// The task before its first instruction.
-    fn new(alloc: Global, place: &Place<'_>) -> Result<TaskAlone, Memory>
+    pub(crate) fn new(alloc: Global, place: &Place<'_>) -> Result<TaskAlone, Memory>
         ensures { IfOk result (λ task. task ≡ start_alone place.now) }
     {
         let untouched = Cell {
@@ -63,7 +64,7 @@ impl TaskAlone {
 
     /// What the task needs next, and its instruction; None if it has ended, or if its control is open.
     #[inline(always)]
-    fn look(&self, place: &Place<'_>) -> Option<Next>
+    pub(crate) fn look(&self, place: &Place<'_>) -> Option<Next>
         ensures open { IfSome result (λ next. self.now.state.end ≡ None) }
         ensures next { IfSome result (λ next. IsNextOf place.now.program place.now.decl place.now.fuel self.now.state next) }
         ensures settled { IfSome result (λ next. is_settled_if self.now.kinds self.now.state next.instr ≡ true) }
@@ -71,6 +72,7 @@ impl TaskAlone {
         ensures locks { IfSome result (λ next. length place.now.program.locks ≤ 32) }
         ensures fuel { IfSome result (λ next. place.now.fuel ≤ 32768) }
         ensures none { IfNone result (alone_step place.now self.now ≡ self.now) }
+        ensures rests { IfNone result (makes_one place.now self.now ≡ false) }
     {
         if self.state.end.is_some() {
             return None;
@@ -199,9 +201,9 @@ impl TaskAlone {
 
 /// A task alone, with a list of the shared words of which it has stored values.
 #[derive(Drop)]
-struct Tracked {
-    task: TaskAlone,
-    listed: Vec<u32>,
+pub(crate) struct Tracked {
+    pub(crate) task: TaskAlone,
+    pub(crate) listed: Vec<u32>,
 }
 
 impl Tracked {
@@ -244,7 +246,7 @@ impl Tracked {
 
     /// Makes one instruction of the task; a task that has ended, or whose control is open, isn't changed. Returns whether an
     /// instruction was made.
-    fn step(&mut self, place: &Place<'_>) -> Result<bool, Memory>
+    pub(crate) fn step(&mut self, place: &Place<'_>) -> Result<bool, Memory>
         requires well { IsWell place.now self.old.task }
         requires tracked { IsTracked place.now self.old.task.cells self.old.listed.items }
         ensures value { IfOk result (λ went. self.new.task ≡ alone_step place.now self.old.task) }

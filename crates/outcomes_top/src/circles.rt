@@ -89,7 +89,7 @@ fn add_through(rows: &mut [u32], lock: u32)
 }
 
 /// For each lock the locks to which a way leads from it that passes locks below `most` alone, as bits.
-fn all_leading(all: &[Outline<'_>], most: u32) -> [u32; 32]
+pub(crate) fn all_leading(all: &[Outline<'_>], most: u32) -> [u32; 32]
     requires { most ≤ 32 }
     ensures { (a b : ℕ) → a < 32 → b < 32 → is_held (slice_index result a) b ≡ leads all.now most a b }
 {

@@ -16,7 +16,7 @@ use rv_core::{DecodedCode, outcome};
 use std::alloc::Global;
 
 /// What is known of memory at first: all of it.
-fn all_known(alloc: Global, memory: &[u32]) -> Result<Vec<Value>, Memory>
+pub(crate) fn all_known(alloc: Global, memory: &[u32]) -> Result<Vec<Value>, Memory>
     ensures { IfOk result (λ values. values.items ≡ map known memory.now) }
 {
     let mut values = Vec::new(alloc);

@@ -36,7 +36,7 @@ fn alu_kind(op: AluOp, a: Kind, b: Kind) -> Kind
 
 /// What is known of a register.
 #[inline(always)]
-fn register_kind(kinds: &[Kind; 32], register: Reg) -> Kind
+pub(crate) fn register_kind(kinds: &[Kind; 32], register: Reg) -> Kind
     ensures { result ≡ register_kind kinds.now register }
 {
     let number = register.number() as usize;

@@ -14,6 +14,19 @@ ghost use Rattle.run_report.specs.Answer.{answer_of};
 ghost use Rattle.program_outside.specs.Serving.{IsEnough};
 ghost use Rattle.outcomes_top.specs.declared.status.OutcomesStatus.TheVariants.{Settled, Refused};
 ghost use Rattle.rv_core.specs.declared.ending.Ending.{Ending};
+ghost use Rattle.region_table.specs.declared.declared.Phase.{Phase};
+ghost use Rattle.common_outcomes.specs.declared.value.Value.{Value};
+ghost use Rattle.common_outcomes.specs.declared.answer.Open.{Open};
+ghost use Rattle.common_outcomes.specs.declared.answer.Outcomes.TheVariants.{Open as LeftOpen};
+ghost use Rattle.common_outcomes.specs.Alone.{Setup};
+ghost use Rattle.common_outcomes.specs.Phases.{Summary};
+ghost use Rattle.common_outcomes.specs.Answer.{outcomes};
+ghost use Rattle.outcomes_top.specs.declared.reasons.Dependence.{Dependence};
+ghost use Rattle.outcomes_top.specs.declared.reasons.Reason.{Reason};
+ghost use Rattle.outcomes_top.specs.declared.reasons.Sought.{Sought};
+ghost use Rattle.outcomes_top.specs.declared.reasons.Taken.{Taken};
+ghost use Rattle.outcomes_top.specs.Reasons.{dependence_of, takings_in, last_sought, reason_of};
+ghost use Rattle.outcomes_top.specs.ReasonLaws.{IsDependence, IsMadeIn};
 ghost use Rattle.outcomes_top.specs.Answers.{OutcomesReply, IsOutcomesAnswer, HasPrinted, settled_reply};
 ghost use Rattle.outcomes_top.specs.Beside.{StandsInAnswer};
 
@@ -47,4 +60,23 @@ pub fn what_is_printed_stands_in_the_answer()
 /// What answers as many bytes as are read at most answers every text that begins with them.
 pub fn the_bytes_that_are_read_are_enough()
     ensures { (fuel : ℕ) → IsEnough (IsOutcomesAnswer fuel) 1048577 }
+{}
+
+/// Where an answer is open there is a reason for it (`some`), and the reason is the answer's (`why`).
+pub fn an_open_answer_has_its_reason()
+    ensures some { (P : ProgramParts) (fuel : ℕ) (why : Open) → outcomes P fuel ≡ LeftOpen why → (r : Reason) × (reason_of P fuel ≡ Some r) × (r.why ≡ why) }
+    ensures why { (P : ProgramParts) (fuel : ℕ) (r : Reason) → reason_of P fuel ≡ Some r → outcomes P fuel ≡ LeftOpen r.why }
+{}
+
+/// The register that is named where control is open decides what the next instruction of the task alone needs, or where it leads, and
+/// not all is known of it. The load that is named is one that the task alone makes: not all is known there of the word, and the lock
+/// that is named is one that the task holds then and that guards the word for it, if there is such a one.
+pub fn a_named_register_decides_and_a_named_load_is_made()
+    ensures { (S : Setup) (d : Dependence) → dependence_of S ≡ Some d → IsDependence S d }
+{}
+
+/// An acquire that is named is one that the task of its core makes alone, at its address.
+pub fn a_named_acquire_is_made()
+    ensures { (P : ProgramParts) (fuel : ℕ) (p : Phase) (first : List Value) (rs : List Summary) (s : Sought) (t : Taken) → last_sought rs s (takings_in P fuel p first) ≡ Some t
+        → IsMadeIn P fuel p first t }
 {}

@@ -11,6 +11,7 @@ ghost use Rattle.common_outcomes.specs.Answer.{open_of, end_alone, has_ended_wel
 ghost use Rattle.outcomes_top.specs.declared.phase.Progress.TheVariants.{Over, Goes};
 ghost use Rattle.common_outcomes.specs.declared.value.Effect.TheVariants.{Kept};
 ghost use Rattle.outcomes_top.specs.Marks.{TellShared};
+ghost use Rattle.outcomes_top.specs.Reasons.{reason_from, reason_after};
 ghost use Rattle.outcomes_top.specs.Effects.{effect_at, AreEffectsOf, without_words, outline_alone, answer_after};
 
 use crate::alone::{TaskAlone, run_alone};
@@ -100,7 +101,7 @@ fn run_tasks<'a>(
 }
 
 /// Each task of the phase alone, and what they did to each word.
-fn alone_in<'a>(
+pub(crate) fn alone_in<'a>(
     alloc: Global,
     program: &Program,
     code: &DecodedCode,
@@ -209,6 +210,8 @@ impl Settled {
         ensures value { IfOk result (λ progress. (left : List APhase) → answer_after progress program.now fuel number.0 left self.new.ends self.new.memory.items
             ≡ answer_from program.now fuel number.0 (phase.now ∷ left) self.old.ends self.old.memory.items) }
         ensures words { IfOk result (λ progress. length self.new.memory.items ≡ length program.now.memory) }
+        ensures reason { IfOk result (λ progress. (left : List APhase) → reason_after progress program.now fuel number.0 phase.now left self.new.memory.items
+            ≡ reason_from program.now fuel number.0 (phase.now ∷ left) self.old.memory.items) }
     {
         let (all, effects) = alone_in(alloc, program, code, fuel, phase, self.memory.as_slice())?;
         if let Some(open) = open_of(number, all.as_slice()) {
