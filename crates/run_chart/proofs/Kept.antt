@@ -1,5 +1,5 @@
 -- What is kept of a chart is what its rows, its note and the chart made of them are.
-use Rattle.std.proofs.Common.{◌≡◌, ℕ, Bool, List, Result, Ok, Err, IfOk, refl, ap, ◌∙◌}
+use Rattle.std.proofs.Common.{◌≡◌, ℕ, List, Result, Ok, Err, IfOk, refl, ap, ◌∙◌}
 use Rattle.text_places.specs.declared.places.Located.{Located}
 use Rattle.run_chart.specs.declared.finishing.Columns.{Columns}
 use Rattle.run_chart.specs.declared.keeping.Keeping.{Keeping}
@@ -9,12 +9,12 @@ use Rattle.run_chart.specs.declared.parts.Fit.{Fit}
 use Rattle.run_chart.specs.Choosing.{note_by, note_of}
 use Rattle.run_chart.specs.Keeping.{chart_by, kept_chart, kept_rows, line_after, rows_from}
 
-pub kept-is : {E : Type 0} (K : Keeping) (columns : Columns) (fit : Fit) (L : Located) (chart : Chart) (given placed a b : List ChartRow) (actors : List Bool) (line : ℕ) (note : List ℕ) (r : Result Chart E) → given ≡ chart.rows
-    → a ≡ placed → b ≡ placed → actors ≡ K.actors → placed ≡ rows_from K chart.shape 0 given → line ≡ line_after K chart.shape 0 given → note ≡ note_by K L chart a
-    → IfOk r (λ out. out ≡ chart_by actors columns fit note chart b line) → IfOk r (λ out. out ≡ kept_chart K columns fit (note_of K L chart) chart)
-kept-is K columns fit L chart given placed a b actors line note (Err e) whole first second marks rows_are line_is note_is made = tt
-kept-is K columns fit L chart given placed a b actors line note (Ok out) whole first second marks rows_are line_is note_is made =
+pub kept-is : {E : Type 0} (K : Keeping) (columns : Columns) (fit : Fit) (L : Located) (chart : Chart) (given placed a b : List ChartRow) (line : ℕ) (note : List ℕ) (r : Result Chart E) → given ≡ chart.rows
+    → a ≡ placed → b ≡ placed → placed ≡ rows_from K chart.shape 0 given → line ≡ line_after K chart.shape 0 given → note ≡ note_by K L chart a
+    → IfOk r (λ out. out ≡ chart_by K columns fit note chart b line) → IfOk r (λ out. out ≡ kept_chart K columns fit (note_of K L chart) chart)
+kept-is K columns fit L chart given placed a b line note (Err e) whole first second rows_are line_is note_is made = tt
+kept-is K columns fit L chart given placed a b line note (Ok out) whole first second rows_are line_is note_is made =
     let kept : placed ≡ kept_rows K chart = rows_are ∙ ap (λ (l : List ChartRow). rows_from K chart.shape 0 l) whole in
     let behind : line ≡ line_after K chart.shape 0 chart.rows = line_is ∙ ap (λ (l : List ChartRow). line_after K chart.shape 0 l) whole in
     let noted : note ≡ note_of K L chart = note_is ∙ ap (λ (l : List ChartRow). note_by K L chart l) (first ∙ kept) in
-    made ∙ rw (marks, noted, second ∙ kept, behind) refl
+    made ∙ rw (noted, second ∙ kept, behind) refl

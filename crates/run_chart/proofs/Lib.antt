@@ -6,6 +6,7 @@ pub mod Chosen
 pub mod ColumnsApart
 pub mod Counted
 pub mod Each
+pub mod Fitting
 pub mod Flown
 pub mod Gathered
 pub mod Items
@@ -21,3 +22,4 @@ pub mod Others
 pub mod RangeRows
 pub mod Senders
 pub mod Shown
+pub mod SlideSize

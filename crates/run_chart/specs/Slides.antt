@@ -1,0 +1,73 @@
+-- What a slide shows of a chart: as many events as have room, from the first one on that is no plain instruction.
+--
+-- A slide has 1,280 by 720 points. Below its head, which takes 121 points, 31 lines of 18 points each have room.
+use Rattle.std.specs.Prelude.{ℕ, suc, ◌+◌, Bool, not, nat_le, List, position, slice_get, Option, Some, None, if◌then◌else◌}
+use Rattle.run_chart.specs.declared.finishing.Columns.{Columns}
+use Rattle.run_chart.specs.declared.finishing.Columns.TheVariants.{Used}
+use Rattle.run_chart.specs.declared.keeping.Keeping.{Keeping}
+use Rattle.run_chart.specs.declared.keeping.Window.{Window}
+use Rattle.run_chart.specs.declared.parts.Chart.{Chart}
+use Rattle.run_chart.specs.declared.parts.ChartRow.{ChartRow}
+use Rattle.run_chart.specs.declared.parts.Fit.{Fit}
+use Rattle.run_chart.specs.declared.parts.Fit.TheVariants.{Rows, Slide}
+use Rattle.run_chart.specs.Keeping.{is_plain, kept_rows, line_after, lines_in}
+
+abbrev pub slide_lines : ℕ
+slide_lines = 31
+
+-- a slide has columns only for the cores and banks that have something to do on it
+abbrev pub columns_on : Fit → Columns → Columns
+columns_on Rows columns = columns
+columns_on Slide columns = Used
+
+-- ---- which rows have room
+
+-- how many lines a chart has with what is kept of it, and whether they have room
+abbrev pub lines_kept : Keeping → Chart → ℕ
+lines_kept K chart = lines_in K chart (kept_rows K chart) (line_after K chart.shape 0 chart.rows)
+
+abbrev pub fits : Keeping → Chart → Bool
+fits K chart = nat_le (lines_kept K chart) slide_lines
+
+-- the row that a slide begins with: the first one that is of no plain instruction, if there is one
+abbrev pub is_shown_first : ChartRow → Bool
+is_shown_first row = not (is_plain row)
+
+abbrev pub place_or_first : Option ℕ → ℕ
+place_or_first None = 0
+place_or_first (Some place) = place
+
+abbrev pub first_place : List ChartRow → ℕ
+first_place rows = place_or_first (position is_shown_first rows)
+
+-- the event of a row; the number of events where there is no row
+abbrev pub event_or : ℕ → Option ChartRow → ℕ
+event_or events None = events
+event_or events (Some row) = row.event
+
+-- the window of so many of the rows: it has all events up to that of the next row
+abbrev pub window_of : List ChartRow → ℕ → ℕ → Window
+window_of rows events count =
+    record { first = event_or events (slice_get rows (first_place rows)); behind = event_or events (slice_get rows (first_place rows + count)) }
+
+-- what is kept in the window of so many of the rows that are kept
+abbrev pub within : Keeping → Window → Keeping
+within K window = record K { window = Some window }
+
+abbrev pub within_rows : Keeping → Chart → ℕ → Keeping
+within_rows K chart count = within K (window_of (kept_rows K chart) chart.events count)
+
+-- the most rows, of at most so many, that have room; a single one is shown even where it has none
+abbrev pub most_rows : Keeping → Chart → ℕ → ℕ
+most_rows K chart 0 = 1
+most_rows K chart (suc n) = if fits (within_rows K chart (suc n)) chart then suc n else most_rows K chart n
+
+-- ---- the choice
+
+-- what is kept of a chart on a picture of a size: on a slide no more than has room
+abbrev pub on_slide : Keeping → Chart → Keeping
+on_slide K chart = if fits K chart then K else within_rows K chart (most_rows K chart slide_lines)
+
+abbrev pub fitted : Fit → Keeping → Chart → Keeping
+fitted Rows K chart = K
+fitted Slide K chart = on_slide K chart

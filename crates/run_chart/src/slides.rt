@@ -1,0 +1,170 @@
+//! What a slide shows of a chart: as many events as have room, from the first one on that is no plain instruction.
+ghost use Rattle.std.specs.Prelude.{◌≡◌, ◌≤◌, slice_get, IfOk};
+ghost use Rattle.run_chart.specs.Keeping.{kept_rows};
+ghost use Rattle.run_chart.specs.Slides.{columns_on, event_or, first_place, fits, fitted, is_shown_first, most_rows, on_slide, window_of, within_rows};
+
+use crate::finishing::Columns;
+use crate::keeping::{Keeping, Window, is_plain};
+use crate::parts::{Chart, ChartRow, Fit};
+use dn_base::{Memory, Sequence};
+use std::alloc::Global;
+
+/// How many lines have room on a slide.
+const SLIDE_LINES: u32 = 31;
+
+/// The columns of a picture: on a slide only those that are used.
+pub fn columns_on(fit: Fit, columns: Columns) -> Columns
+    ensures { result ≡ columns_on fit columns }
+{
+    match fit {
+        Fit::Rows => columns,
+        Fit::Slide => Columns::Used,
+    }
+}
+
+/// Whether a slide may begin with a row.
+fn is_shown_first(row: &ChartRow) -> bool
+    ensures { result ≡ is_shown_first row.now }
+{
+    !is_plain(row)
+}
+
+/// The place of the row that a slide begins with.
+fn first_place(rows: &[ChartRow]) -> usize
+    ensures { result ≡ first_place rows.now }
+{
+    match rows.iter().position(|row| is_shown_first(row)) {
+        Some(place) => place,
+        None => 0,
+    }
+}
+
+/// The event of the row at a place; the number of events where there is no row.
+fn event_at(rows: &[ChartRow], place: usize, events: u32) -> u32
+    ensures { result ≡ event_or events (slice_get rows.now place) }
+{
+    match rows.get(place) {
+        Some(row) => row.event,
+        None => events,
+    }
+}
+
+/// The window of so many of the rows.
+fn window_of(rows: &[ChartRow], events: u32, count: usize) -> Window
+    requires { count ≤ 31 }
+    ensures { result ≡ window_of rows.now events count }
+{
+    let place = first_place(rows);
+    Window {
+        first: event_at(rows, place, events),
+        behind: event_at(rows, place + count, events),
+    }
+}
+
+/// The same flags once more.
+fn copy_of(alloc: Global, flags: &Sequence<bool>) -> Result<Sequence<bool>, Memory>
+    ensures { IfOk result (λ copy. copy ≡ flags.now) }
+{
+    Ok(Sequence::from_vec(Vec::from_slice(alloc, flags.as_slice())?))
+}
+
+/// What is kept, in another window.
+fn with_window(alloc: Global, keeping: &Keeping, window: Option<Window>) -> Result<Keeping, Memory>
+    ensures { IfOk result (λ kept. kept ≡ record keeping.now { window = window }) }
+{
+    Ok(Keeping {
+        plain: keeping.plain,
+        later_words: copy_of(alloc, &keeping.later_words)?,
+        words: copy_of(alloc, &keeping.words)?,
+        actors: copy_of(alloc, &keeping.actors)?,
+        window,
+    })
+}
+
+/// What is kept in the window of so many of these rows, which are those that are kept.
+fn within_rows(
+    alloc: Global,
+    chart: &Chart,
+    keeping: &Keeping,
+    rows: &[ChartRow],
+    count: usize,
+) -> Result<Keeping, Memory>
+    requires most { count ≤ 31 }
+    requires rows { rows.now ≡ kept_rows keeping.now chart.now }
+    ensures { IfOk result (λ kept. kept ≡ within_rows keeping.now chart.now count) }
+{
+    with_window(alloc, keeping, Some(window_of(rows, chart.events, count)))
+}
+
+/// Whether a slide has room for what is kept.
+fn fits(alloc: Global, chart: &Chart, keeping: &Keeping) -> Result<bool, Memory>
+    ensures { IfOk result (λ fit. fit ≡ fits keeping.now chart.now) }
+{
+    Ok(keeping.lines(alloc, chart)? <= SLIDE_LINES)
+}
+
+/// Whether a slide has room for so many of these rows.
+fn fits_rows(
+    alloc: Global,
+    chart: &Chart,
+    keeping: &Keeping,
+    rows: &[ChartRow],
+    count: usize,
+) -> Result<bool, Memory>
+    requires most { count ≤ 31 }
+    requires rows { rows.now ≡ kept_rows keeping.now chart.now }
+    ensures { IfOk result (λ fit. fit ≡ fits (within_rows keeping.now chart.now count) chart.now) }
+{
+    let kept = within_rows(alloc, chart, keeping, rows, count)?;
+    fits(alloc, chart, &kept)
+}
+
+/// The most of these rows that have room.
+fn most_rows(
+    alloc: Global,
+    chart: &Chart,
+    keeping: &Keeping,
+    rows: &[ChartRow],
+) -> Result<usize, Memory>
+    requires { rows.now ≡ kept_rows keeping.now chart.now }
+    ensures count { IfOk result (λ count. count ≡ most_rows keeping.now chart.now 31) }
+    ensures most { IfOk result (λ count. count ≤ 31) }
+{
+    for fewer in 0..31 {
+        let count = 31 - fewer;
+        let fit = fits_rows(alloc, chart, keeping, rows, count)?;
+        if fit {
+            return Ok(count);
+        }
+    }
+    Ok(1)
+}
+
+/// What is kept of a chart on a slide.
+fn on_slide(alloc: Global, chart: &Chart, keeping: &Keeping) -> Result<Keeping, Memory>
+    ensures { IfOk result (λ kept. kept ≡ on_slide keeping.now chart.now) }
+{
+    if fits(alloc, chart, keeping)? {
+        return with_window(alloc, keeping, keeping.window);
+    }
+    let (rows, _) = keeping.rows(alloc, chart.shape, chart.rows.as_slice())?;
+    let count = most_rows(alloc, chart, keeping, rows.as_slice())?;
+    within_rows(alloc, chart, keeping, rows.as_slice(), count)
+}
+
+/// What is kept of a chart on a picture of a size.
+///
+/// On a slide it is no more than has room: 31 lines with the messages that leave it and the tasks that wait. Where more is asked for,
+/// a slide shows as many of the events as have room, from the first one on that is no plain instruction; a single event is shown even
+/// where it has no room.
+///
+/// # Errors
+/// `Memory` where there is no room.
+pub fn fitted(alloc: Global, chart: &Chart, keeping: &Keeping, fit: Fit) -> Result<Keeping, Memory>
+    ensures { IfOk result (λ kept. kept ≡ fitted fit keeping.now chart.now) }
+{
+    match fit {
+        Fit::Rows => with_window(alloc, keeping, keeping.window),
+        Fit::Slide => on_slide(alloc, chart, keeping),
+    }
+}
