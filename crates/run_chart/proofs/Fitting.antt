@@ -1,10 +1,12 @@
 -- How many rows have room on a slide.
-use Rattle.std.proofs.Common.{◌≡◌, ◌⊎◌, inl, inr, ℕ, zero, suc, ◌+◌, ◌-◌, ◌<◌, ◌≤◌, ◌==◌, Bool, true, false, nat_le, refl, sym, ap, subst, ◌∙◌, arith}
+use Rattle.std.proofs.Common.{◌≡◌, ◌⊎◌, ⊥, inl, inr, ℕ, zero, suc, ◌+◌, ◌-◌, ◌<◌, ◌≤◌, ◌==◌, ◌&&◌, Bool, true, false, nat_le, refl, sym, ap, subst, ◌∙◌, arith}
 use Rattle.std.proofs.lemmas.Bool.{eqb-true}
 use Rattle.std.proofs.lemmas.Bool.Decides.{nat_tests}
+use Rattle.message_net.specs.declared.actor.Actor.TheVariants.{Keeper}
 use Rattle.run_chart.specs.declared.keeping.Keeping.{Keeping}
 use Rattle.run_chart.specs.declared.parts.Chart.{Chart}
-use Rattle.run_chart.specs.Slides.{fits, fitted, lines_kept, most_rows, on_slide, within_rows}
+use Rattle.run_chart.specs.Places.{place_of}
+use Rattle.run_chart.specs.Slides.{fits, has_room, most_rows, on_slide, slide_of, within_rows, HasRoom}
 
 module _ (K : Keeping) (chart : Chart) where
   rows-fit : ℕ → Bool
@@ -49,22 +51,35 @@ module _ (K : Keeping) (chart : Chart) where
         let less : count ≤ n = grind (arith, nat_tests, most, f) in
         none-greater n count (subst (λ (x : ℕ). x < count) (most-below n e) more) less
 
-  -- a slide has room for its lines, or one row
-  pub slide-room : (lines_kept (on_slide K chart) chart ≤ 31) ⊎ (on_slide K chart ≡ within_rows K chart 1)
-  slide-room = by_test (fits K chart) refl (has-room 31) where
-    room : (k : Keeping) → fits k chart ≡ true → lines_kept k chart ≤ 31
-    room k e = let test : nat_le (lines_kept k chart) 31 ≡ true = e in grind (arith, nat_tests, test)
+  -- the test of room is what it says
+  room-is : (c : Chart) → has_room c ≡ true → HasRoom c
+  room-is c e = by_lines (nat_le c.lines 31) refl (nat_le (place_of c Keeper) 5) refl e where
+    by_lines : (s : Bool) → nat_le c.lines 31 ≡ s → (t : Bool) → nat_le (place_of c Keeper) 5 ≡ t → (s && t) ≡ true → HasRoom c
+    by_lines true f true g e = (grind (arith, nat_tests, f), grind (arith, nat_tests, g))
+    by_lines true f false g e = absurd (true-not-false (sym e))
+    by_lines false f t g e = absurd (true-not-false (sym e))
 
-    by_count : (n : ℕ) → (fits (within_rows K chart n) chart ≡ true) ⊎ (n ≡ 1) → (lines_kept (within_rows K chart n) chart ≤ 31) ⊎ (within_rows K chart n ≡ within_rows K chart 1)
-    by_count n (inl e) = inl (room (within_rows K chart n) e)
+  room-tested : (c : Chart) → HasRoom c → has_room c ≡ true
+  room-tested c (lines, columns) =
+      let first : nat_le c.lines 31 ≡ true = grind (arith, nat_tests, lines) in
+      let second : nat_le (place_of c Keeper) 5 ≡ true = grind (arith, nat_tests, columns) in
+      rw (first, second) refl
+
+  -- a slide has room for its rows, or it is one row
+  pub slide-room : HasRoom (slide_of (on_slide K chart) chart) ⊎ (on_slide K chart ≡ within_rows K chart 1)
+  slide-room = by_test (fits K chart) refl (has-room 31) where
+    by_count : (n : ℕ) → (fits (within_rows K chart n) chart ≡ true) ⊎ (n ≡ 1) → HasRoom (slide_of (within_rows K chart n) chart) ⊎ (within_rows K chart n ≡ within_rows K chart 1)
+    by_count n (inl e) = inl (room-is (slide_of (within_rows K chart n) chart) e)
     by_count n (inr one) = inr (ap (within_rows K chart) one)
 
     by_test : (t : Bool) → fits K chart ≡ t → (fits (within_rows K chart (most_rows K chart 31)) chart ≡ true) ⊎ (most_rows K chart 31 ≡ 1)
-        → (lines_kept (on_slide K chart) chart ≤ 31) ⊎ (on_slide K chart ≡ within_rows K chart 1)
-    by_test true e has = rw e (inl (room K e))
-    by_test false e has = rw e (by_count (most_rows K chart 31) has)
+        → HasRoom (slide_of (on_slide K chart) chart) ⊎ (on_slide K chart ≡ within_rows K chart 1)
+    by_test true e has =
+        let is : on_slide K chart ≡ K = rw e refl in
+        subst (λ (k : Keeping). HasRoom (slide_of k chart) ⊎ (k ≡ within_rows K chart 1)) (sym is) (inl (room-is (slide_of K chart) e))
+    by_test false e has =
+        let is : on_slide K chart ≡ within_rows K chart (most_rows K chart 31) = rw e refl in
+        subst (λ (k : Keeping). HasRoom (slide_of k chart) ⊎ (k ≡ within_rows K chart 1)) (sym is) (by_count (most_rows K chart 31) has)
 
-  pub no-room : (count : ℕ) → most_rows K chart 31 < count → count ≤ 31 → 31 < lines_kept (within_rows K chart count) chart
-  no-room count more most =
-      let test : nat_le (lines_kept (within_rows K chart count) chart) 31 ≡ false = none-greater 31 count more most in
-      grind (arith, nat_tests, test)
+  pub no-room : (count : ℕ) → most_rows K chart 31 < count → count ≤ 31 → HasRoom (slide_of (within_rows K chart count) chart) → ⊥
+  no-room count more most room = true-not-false (sym (room-tested (slide_of (within_rows K chart count) chart) room) ∙ none-greater 31 count more most)

@@ -201,10 +201,6 @@ waits_in K chart line = if ends_early K.window chart.events then [] else tasks_f
 abbrev pub tasks_in : Keeping → Chart → List ChartRow → ℕ → List WaitingTask
 tasks_in K chart kept line = waits_in K chart (line + length (left_in K chart kept line))
 
--- how many lines there are with them
-abbrev pub lines_in : Keeping → Chart → List ChartRow → ℕ → ℕ
-lines_in K chart kept line = line + length (left_in K chart kept line) + length (tasks_in K chart kept line)
-
 -- ---- the chart
 
 abbrev pub kept_rows : Keeping → Chart → List ChartRow

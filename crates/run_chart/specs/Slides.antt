@@ -1,7 +1,9 @@
 -- What a slide shows of a chart: as many events as have room, from the first one on that is no plain instruction.
 --
--- A slide has 1,280 by 720 points. Below its head, which takes 121 points, 31 lines of 18 points each have room.
-use Rattle.std.specs.Prelude.{ℕ, suc, ◌+◌, Bool, not, nat_le, List, position, slice_get, Option, Some, None, if◌then◌else◌}
+-- A slide has 1,280 by 720 points. Below its head, which takes 121 points, 31 lines of 18 points each have room, and beside the numbers of
+-- the events the columns of five cores and banks and of the keeper.
+use Rattle.std.specs.Prelude.{ℕ, suc, ◌+◌, ◌≤◌, ◌&&◌, Bool, not, nat_le, List, [], position, slice_get, Option, Some, None, if◌then◌else◌}
+use Rattle.message_net.specs.declared.actor.Actor.TheVariants.{Keeper}
 use Rattle.run_chart.specs.declared.finishing.Columns.{Columns}
 use Rattle.run_chart.specs.declared.finishing.Columns.TheVariants.{Used}
 use Rattle.run_chart.specs.declared.keeping.Keeping.{Keeping}
@@ -10,24 +12,35 @@ use Rattle.run_chart.specs.declared.parts.Chart.{Chart}
 use Rattle.run_chart.specs.declared.parts.ChartRow.{ChartRow}
 use Rattle.run_chart.specs.declared.parts.Fit.{Fit}
 use Rattle.run_chart.specs.declared.parts.Fit.TheVariants.{Rows, Slide}
-use Rattle.run_chart.specs.Keeping.{is_plain, kept_rows, line_after, lines_in}
+use Rattle.run_chart.specs.Keeping.{is_plain, kept_chart, kept_rows}
+use Rattle.run_chart.specs.Places.{place_of}
 
 abbrev pub slide_lines : ℕ
 slide_lines = 31
+
+abbrev pub slide_columns : ℕ
+slide_columns = 5
+
+-- a slide has room for a chart of at most so many lines, with at most so many columns before the keeper's
+abbrev pub HasRoom : Chart → Type 0
+HasRoom chart = (chart.lines ≤ slide_lines) × (place_of chart Keeper ≤ slide_columns)
+
+abbrev pub has_room : Chart → Bool
+has_room chart = nat_le chart.lines slide_lines && nat_le (place_of chart Keeper) slide_columns
 
 -- a slide has columns only for the cores and banks that have something to do on it
 abbrev pub columns_on : Fit → Columns → Columns
 columns_on Rows columns = columns
 columns_on Slide columns = Used
 
--- ---- which rows have room
-
--- how many lines a chart has with what is kept of it, and whether they have room
-abbrev pub lines_kept : Keeping → Chart → ℕ
-lines_kept K chart = lines_in K chart (kept_rows K chart) (line_after K chart.shape 0 chart.rows)
+-- the slide of what is kept, and whether there is room for it
+abbrev pub slide_of : Keeping → Chart → Chart
+slide_of K chart = kept_chart K Used Slide [] chart
 
 abbrev pub fits : Keeping → Chart → Bool
-fits K chart = nat_le (lines_kept K chart) slide_lines
+fits K chart = has_room (slide_of K chart)
+
+-- ---- which rows have room
 
 -- the row that a slide begins with: the first one that is of no plain instruction, if there is one
 abbrev pub is_shown_first : ChartRow → Bool

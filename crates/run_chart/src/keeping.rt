@@ -3,10 +3,9 @@ ghost use Rattle.std.specs.Prelude.{◌≡◌, ◌+◌, ◌≤◌, ◌&&◌, ◌
 ghost use Rattle.std.specs.List.{list_any};
 ghost use Rattle.run_chart.specs.Arrows.{line_of_event};
 ghost use Rattle.run_chart.specs.Drawing.{row_lines};
-ghost use Rattle.run_chart.specs.Keeping.{accesses, chart_by, ends_early, event_on_line, has_to_do, is_about, is_behind, is_in_window, is_kept, is_later, is_of_actors, is_of_marked, is_of_words, is_plain, kept_changes, kept_chart, left_from, left_in, line_after, line_of, lines_in, mail_behind, mail_of, mails_behind, moved_from, moved_line, moved_origin, row_from, rows_from, shows_plain, tasks_from, tasks_in, waits_in, with_origin, with_origins};
+ghost use Rattle.run_chart.specs.Keeping.{accesses, chart_by, ends_early, event_on_line, has_to_do, is_about, is_behind, is_in_window, is_kept, is_later, is_of_actors, is_of_marked, is_of_words, is_plain, kept_changes, kept_chart, left_from, left_in, line_after, line_of, mail_behind, mail_of, mails_behind, moved_from, moved_line, moved_origin, row_from, rows_from, shows_plain, tasks_from, tasks_in, waits_in, with_origin, with_origins};
 ghost use Rattle.run_chart.specs.Choosing.{is_all, note_by, note_of};
 ghost use Rattle.run_chart.specs.Places.{is_shown};
-ghost use Rattle.run_chart.specs.Slides.{lines_kept};
 
 use crate::choosing::note;
 use crate::finishing::{Columns, shown_actors};
@@ -546,18 +545,6 @@ impl Keeping {
         }
         Ok((kept, line))
     }
-
-    /// How many lines a chart has with what is kept of it.
-    ///
-    /// # Errors
-    /// `Memory` where there is no room.
-    pub(crate) fn lines(&self, alloc: Global, chart: &Chart) -> Result<u32, Memory>
-        ensures { IfOk result (λ lines. lines ≡ lines_kept self.now chart.now) }
-    {
-        let (placed, line) = self.rows(alloc, chart.shape, chart.rows.as_slice())?;
-        let below = below(alloc, self, chart, placed.as_slice(), line)?;
-        Ok(below.lines)
-    }
 }
 
 /// The messages that leave the window or the range, each on a line of its own from this one on.
@@ -597,40 +584,8 @@ fn waiting_below(
     }
 }
 
-/// What stands below the rows that are kept.
-#[derive(Drop)]
-struct Below {
-    leaving: Sequence<LeavingMail>,
-    waiting: Sequence<WaitingTask>,
-    /// How many lines the chart has with both.
-    lines: u32,
-}
-
-/// What stands below these rows, which end before a line.
-fn below(
-    alloc: Global,
-    keeping: &Keeping,
-    chart: &Chart,
-    placed: &[ChartRow],
-    line: u32,
-) -> Result<Below, Memory>
-    ensures leaving { IfOk result (λ below. below.leaving ≡ left_in keeping.now chart.now placed.now line) }
-    ensures waiting { IfOk result (λ below. below.waiting ≡ tasks_in keeping.now chart.now placed.now line) }
-    ensures lines { IfOk result (λ below. below.lines ≡ lines_in keeping.now chart.now placed.now line) }
-{
-    let leaving = leaving_below(alloc, keeping, chart, placed, line)?;
-    let behind = lines_behind(line, leaving.len())?;
-    let waiting = waiting_below(alloc, keeping, chart, behind)?;
-    let lines = lines_behind(behind, waiting.len())?;
-    Ok(Below {
-        leaving,
-        waiting,
-        lines,
-    })
-}
-
 /// The chart of rows that are kept, which end before a line; their arrows begin where they did in the whole chart.
-fn chart_with(
+pub(crate) fn chart_with(
     alloc: Global,
     chart: &Chart,
     keeping: &Keeping,
@@ -643,11 +598,10 @@ fn chart_with(
     ensures { IfOk result (λ kept. kept ≡ chart_by keeping.now columns fit note chart.now placed.now line) }
 {
     let rows = with_origins(alloc, chart.rows.as_slice(), placed)?;
-    let Below {
-        leaving,
-        waiting,
-        lines,
-    } = below(alloc, keeping, chart, placed, line)?;
+    let leaving = leaving_below(alloc, keeping, chart, placed, line)?;
+    let behind = lines_behind(line, leaving.len())?;
+    let waiting = waiting_below(alloc, keeping, chart, behind)?;
+    let lines = lines_behind(behind, waiting.len())?;
     let shown = shown_actors(
         alloc,
         columns,

@@ -47,7 +47,7 @@ pub use picture_laws::{
     rows_on_other_lines_are_drawn_apart,
 };
 pub use slide_laws::{
-    a_slide_has_as_many_rows_as_have_room, a_slide_has_at_most_its_lines,
+    a_slide_has_as_many_rows_as_have_room, a_slide_has_room_for_its_lines_and_columns,
     lines_of_a_slide_are_not_made_smaller,
 };
 pub use slides::{columns_on, fitted};

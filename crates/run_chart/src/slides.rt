@@ -1,16 +1,20 @@
 //! What a slide shows of a chart: as many events as have room, from the first one on that is no plain instruction.
 ghost use Rattle.std.specs.Prelude.{◌≡◌, ◌≤◌, slice_get, IfOk};
 ghost use Rattle.run_chart.specs.Keeping.{kept_rows};
-ghost use Rattle.run_chart.specs.Slides.{columns_on, event_or, first_place, fits, fitted, is_shown_first, most_rows, on_slide, window_of, within_rows};
+ghost use Rattle.run_chart.specs.Slides.{columns_on, event_or, first_place, fits, fitted, has_room, is_shown_first, most_rows, on_slide, slide_of, window_of, within_rows};
 
 use crate::finishing::Columns;
-use crate::keeping::{Keeping, Window, is_plain};
+use crate::keeping::{Keeping, Window, chart_with, is_plain};
 use crate::parts::{Chart, ChartRow, Fit};
 use dn_base::{Memory, Sequence};
+use message_net::Actor;
 use std::alloc::Global;
 
 /// How many lines have room on a slide.
 const SLIDE_LINES: u32 = 31;
+
+/// How many cores and banks have room on it.
+const SLIDE_COLUMNS: u64 = 5;
 
 /// The columns of a picture: on a slide only those that are used.
 pub fn columns_on(fit: Fit, columns: Columns) -> Columns
@@ -96,11 +100,36 @@ fn within_rows(
     with_window(alloc, keeping, Some(window_of(rows, chart.events, count)))
 }
 
+/// The slide of what is kept.
+fn slide_of(alloc: Global, chart: &Chart, keeping: &Keeping) -> Result<Chart, Memory>
+    ensures { IfOk result (λ slide. slide ≡ slide_of keeping.now chart.now) }
+{
+    let (placed, line) = keeping.rows(alloc, chart.shape, chart.rows.as_slice())?;
+    chart_with(
+        alloc,
+        chart,
+        keeping,
+        Columns::Used,
+        Fit::Slide,
+        Sequence::new(alloc),
+        placed.as_slice(),
+        line,
+    )
+}
+
+/// Whether a slide has room for a chart.
+fn has_room(chart: &Chart) -> bool
+    ensures { result ≡ has_room chart.now }
+{
+    chart.lines <= SLIDE_LINES && chart.place_of(Actor::Keeper) <= SLIDE_COLUMNS
+}
+
 /// Whether a slide has room for what is kept.
 fn fits(alloc: Global, chart: &Chart, keeping: &Keeping) -> Result<bool, Memory>
     ensures { IfOk result (λ fit. fit ≡ fits keeping.now chart.now) }
 {
-    Ok(keeping.lines(alloc, chart)? <= SLIDE_LINES)
+    let slide = slide_of(alloc, chart, keeping)?;
+    Ok(has_room(&slide))
 }
 
 /// Whether a slide has room for so many of these rows.
@@ -154,8 +183,8 @@ fn on_slide(alloc: Global, chart: &Chart, keeping: &Keeping) -> Result<Keeping, 
 
 /// What is kept of a chart on a picture of a size.
 ///
-/// On a slide it is no more than has room: 31 lines with the messages that leave it and the tasks that wait. Where more is asked for,
-/// a slide shows as many of the events as have room, from the first one on that is no plain instruction; a single event is shown even
+/// On a slide it is no more than has room: 31 lines with the messages that leave it and the tasks that wait, and columns of five cores
+/// and banks. Where more is asked for, a slide shows as many of the events as have room, from the first one on that is no plain instruction; a single event is shown even
 /// where it has no room.
 ///
 /// # Errors
