@@ -56,8 +56,8 @@ module _ (K : Keeping) (chart : Chart) where
   room-is c e = by_lines (nat_le c.lines 31) refl (nat_le (place_of c Keeper) 5) refl e where
     by_lines : (s : Bool) → nat_le c.lines 31 ≡ s → (t : Bool) → nat_le (place_of c Keeper) 5 ≡ t → (s && t) ≡ true → HasRoom c
     by_lines true f true g e = (grind (arith, nat_tests, f), grind (arith, nat_tests, g))
-    by_lines true f false g e = absurd (true-not-false (sym e))
-    by_lines false f t g e = absurd (true-not-false (sym e))
+    by_lines true f false g e = absurd cc
+    by_lines false f t g e = absurd cc
 
   room-tested : (c : Chart) → HasRoom c → has_room c ≡ true
   room-tested c (lines, columns) =
@@ -82,4 +82,6 @@ module _ (K : Keeping) (chart : Chart) where
         subst (λ (k : Keeping). HasRoom (slide_of k chart) ⊎ (k ≡ within_rows K chart 1)) (sym is) (by_count (most_rows K chart 31) has)
 
   pub no-room : (count : ℕ) → most_rows K chart 31 < count → count ≤ 31 → HasRoom (slide_of (within_rows K chart count) chart) → ⊥
-  no-room count more most room = true-not-false (sym (room-tested (slide_of (within_rows K chart count) chart) room) ∙ none-greater 31 count more most)
+  no-room count more most room =
+      let both : true ≡ false = sym (room-tested (slide_of (within_rows K chart count) chart) room) ∙ none-greater 31 count more most in
+      absurd cc
