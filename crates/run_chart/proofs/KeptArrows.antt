@@ -12,7 +12,7 @@ use Rattle.run_timing.specs.Depends.{actor_at}
 use Rattle.run_chart.specs.declared.keeping.Window.{Window}
 use Rattle.run_chart.specs.Arrows.{ComesFromSender, LeavesFromSender, TellsSender}
 use Rattle.run_chart.specs.Windows.{IsHandledBehind, LeavesWindow}
-use Rattle.run_chart.specs.Keeping.{is_behind, left_by, left_from, mail_behind, mail_from, mail_of, mails_behind, moved_from, moved_line, moved_origin, row_from, rows_from, with_mail, with_origin, with_origins}
+use Rattle.run_chart.specs.Keeping.{comes_behind, left_by, left_from, mail_behind, mail_from, handled_mail, mails_behind, moved_from, moved_line, moved_origin, row_from, rows_from, with_handled, with_origin, with_origins}
 use Rattle.run_chart.proofs.KeptRows.{arrow-moves, kept-from, map-there, AreBelow, IsKeptFrom}
 
 -- a mail that leaves is one of those that did, from the line that its sender's row has now
@@ -73,7 +73,7 @@ pub record ComesBehind (window : Option Window) (rows : List ChartRow) (mail : L
   pub row : ChartRow
   pub origin : Origin
   pub here : slice_get rows place ≡ Some row
-  pub behind : is_behind window row.event ≡ true
+  pub behind : comes_behind window row.event ≡ true
   pub is : row.mail ≡ Some origin
   pub sender : origin.sender ≡ mail.sender
   pub sent : origin.line ≡ Some mail.sent
@@ -94,8 +94,8 @@ behind-later window first rows mail comes =
     }
 
 behind-here : (window : Option Window) (row : ChartRow) (rows : List ChartRow) (mail : LeavingMail) → mail_behind window row ≡ Some mail → ComesBehind window (row ∷ rows) mail
-behind-here window row rows mail is = by_test (is_behind window row.event) refl is where
-  by_line : is_behind window row.event ≡ true → (origin : Origin) → row.mail ≡ Some origin → (l : Option ℕ) → origin.line ≡ l → mail_from row origin.sender l ≡ Some mail → ComesBehind window (row ∷ rows) mail
+behind-here window row rows mail is = by_test (comes_behind window row.event) refl is where
+  by_line : comes_behind window row.event ≡ true → (origin : Origin) → row.mail ≡ Some origin → (l : Option ℕ) → origin.line ≡ l → mail_from row origin.sender l ≡ Some mail → ComesBehind window (row ∷ rows) mail
   by_line e origin f None g is = absurd (none-some mail is)
   by_line e origin f (Some sent) g is =
       let same = same_Some (record { sender = origin.sender; sent = sent; to = row.actor; kind = row.kind; about = row.about; line = 0 }) mail is in
@@ -111,11 +111,11 @@ behind-here window row rows mail is = by_test (is_behind window row.event) refl 
         to = ap (λ (x : LeavingMail). x.to) same;
       }
 
-  by_origin : is_behind window row.event ≡ true → (o : Option Origin) → row.mail ≡ o → mail_of row o ≡ Some mail → ComesBehind window (row ∷ rows) mail
+  by_origin : comes_behind window row.event ≡ true → (o : Option Origin) → row.mail ≡ o → handled_mail row o ≡ Some mail → ComesBehind window (row ∷ rows) mail
   by_origin e None f is = absurd (none-some mail is)
   by_origin e (Some origin) f is = by_line e origin f origin.line refl is
 
-  by_test : (t : Bool) → is_behind window row.event ≡ t → (if t then mail_of row row.mail else None) ≡ Some mail → ComesBehind window (row ∷ rows) mail
+  by_test : (t : Bool) → comes_behind window row.event ≡ t → (if t then handled_mail row row.mail else None) ≡ Some mail → ComesBehind window (row ∷ rows) mail
   by_test true e is = by_origin e row.mail refl is
   by_test false e is = absurd (none-some mail is)
 
@@ -123,7 +123,7 @@ pub behind-there : (window : Option Window) (rows : List ChartRow) (i : ℕ) (ma
 behind-there window [] i mail here = absurd (none-some mail here)
 behind-there window (row ∷ rows) i mail here = by_mail (mail_behind window row) refl (λ j at. behind-there window rows j mail at) i here where
   by_mail : (o : Option LeavingMail) → mail_behind window row ≡ o → ((j : ℕ) → slice_get (mails_behind window rows) j ≡ Some mail → ComesBehind window rows mail) → (i : ℕ)
-      → slice_get (with_mail o (mails_behind window rows)) i ≡ Some mail → ComesBehind window (row ∷ rows) mail
+      → slice_get (with_handled o (mails_behind window rows)) i ≡ Some mail → ComesBehind window (row ∷ rows) mail
   by_mail None e rest i here = behind-later window row rows mail (rest i here)
   by_mail (Some m) e rest zero here = behind-here window row rows mail (e ∙ here)
   by_mail (Some m) e rest (suc i) here = behind-later window row rows mail (rest i here)

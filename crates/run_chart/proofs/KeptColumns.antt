@@ -20,7 +20,7 @@ use Rattle.run_chart.specs.declared.parts.WaitingTask.{WaitingTask}
 use Rattle.run_chart.specs.Arrows.{line_of_event}
 use Rattle.run_chart.specs.Windows.{LeavesWindow}
 use Rattle.run_chart.specs.Finishing.{has_column, uses}
-use Rattle.run_chart.specs.Keeping.{ends_early, is_of_actors, kept_chart, kept_rows, left_in, line_after, mails_behind, moved_origin, tasks_from, waits_in, with_origin}
+use Rattle.run_chart.specs.Keeping.{ends_early, is_of_actors, kept_chart, kept_rows, left_below, line_after, mails_behind, moved_origin, tasks_from, waits_below, with_origin}
 use Rattle.run_chart.specs.Places.{HasColumn}
 use Rattle.run_chart.proofs.KeptArrows.{append-there, behind-there, still-left, ComesBehind, IsStillLeft}
 use Rattle.run_chart.proofs.KeptRows.{kept-from, map-there, IsKeptFrom}
@@ -50,7 +50,7 @@ still-waits marks line (t ∷ ts) i task here = by_test (is_of_actors marks t.co
   by_test false e rest i here = later (rest line i (subst (λ (b : Bool). slice_get (step b) i ≡ Some task) e here))
 
 -- none waits where the window ends before the run
-waits-there : (K : Keeping) (chart : Chart) (line i : ℕ) (task : WaitingTask) → slice_get (waits_in K chart line) i ≡ Some task
+waits-there : (K : Keeping) (chart : Chart) (line i : ℕ) (task : WaitingTask) → slice_get (waits_below K chart line) i ≡ Some task
     → (j : ℕ) × (t : WaitingTask) × (slice_get chart.waiting j ≡ Some t) × (t.core ≡ task.core)
 waits-there K chart line i task here = by_test (ends_early K.window chart.events) here where
   by_test : (b : Bool) → slice_get (if b then [] else tasks_from K.actors line chart.waiting) i ≡ Some task
@@ -126,7 +126,7 @@ module _ (K : Keeping) (shown : Columns) (fit : Fit) (note : List ℕ) (chart : 
   pub kept-waiting-shown : ((j : ℕ) (task : WaitingTask) → slice_get chart.waiting j ≡ Some task → HasColumn chart (Core task.core)) → (i : ℕ) (task : WaitingTask) → slice_get kept.waiting i ≡ Some task
       → HasColumn kept (Core task.core)
   kept-waiting-shown task-shown i task here =
-      let t = waits-there K chart (line_after K chart.shape 0 chart.rows + length (left_in K chart bare (line_after K chart.shape 0 chart.rows))) i task here in
+      let t = waits-there K chart (line_after K chart.shape 0 chart.rows + length (left_below K chart bare (line_after K chart.shape 0 chart.rows))) i task here in
       stays-shown (Core task.core) (subst (λ (c : CoreId). HasColumn chart (Core c)) t.3 (task-shown t.0 t.1 t.2))
       (used-by-task shown kept.rows kept.leaving kept.waiting (Core task.core) i task here (same_actor-refl (Core task.core)))
 

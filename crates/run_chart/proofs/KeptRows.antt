@@ -192,7 +192,7 @@ drawn-apart K shape whole i j a b less here there =
     subst (λ (x : ChartRow). x.line + x.lines ≤ b.line) first.2
     (subst (λ (x : ChartRow). first.0.line + first.0.lines ≤ x.line) second.2 (kept-apart K shape 0 whole i j first.0 second.0 less first.1 second.1))
 
--- an arrow that began on the line of an event's row begins on the line that this row has now, or above all rows
+-- an arrow that began on the line of an event's row begins on the line that this row has now, or at no row
 pub arrow-moves : (K : Keeping) (shape : Shape) (event : ℕ) (whole : List ChartRow) → AreBelow whole
     → moved_from whole (rows_from K shape 0 whole) (line_of_event event whole) ≡ line_of_event event (with_origins whole (rows_from K shape 0 whole))
 arrow-moves K shape event whole apart = by_line (line_of_event event whole) refl ∙ sym (lines-stay whole (rows_from K shape 0 whole) (rows_from K shape 0 whole) event) where

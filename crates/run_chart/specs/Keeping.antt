@@ -153,30 +153,30 @@ left_from whole kept line [] = []
 left_from whole kept line (mail ∷ mails) = left_by line (moved_line whole kept mail.sent) mail (λ next. left_from whole kept next mails)
 
 -- whether an event comes behind the window
-abbrev pub is_behind : Option Window → ℕ → Bool
-is_behind None event = false
-is_behind (Some window) event = nat_le window.behind event
+abbrev pub comes_behind : Option Window → ℕ → Bool
+comes_behind None event = false
+comes_behind (Some window) event = nat_le window.behind event
 
 -- the mail that a row's event handles, by its sender and the line on which it was sent
 abbrev pub mail_from : ChartRow → Actor → Option ℕ → Option LeavingMail
 mail_from row sender None = None
 mail_from row sender (Some sent) = Some (record { sender = sender; sent = sent; to = row.actor; kind = row.kind; about = row.about; line = 0 })
 
-abbrev pub mail_of : ChartRow → Option Origin → Option LeavingMail
-mail_of row None = None
-mail_of row (Some mail) = mail_from row mail.sender mail.line
+abbrev pub handled_mail : ChartRow → Option Origin → Option LeavingMail
+handled_mail row None = None
+handled_mail row (Some mail) = mail_from row mail.sender mail.line
 
 -- the mails that events behind the window handle: they leave the window, as mails in flight behind the range leave it
 abbrev pub mail_behind : Option Window → ChartRow → Option LeavingMail
-mail_behind window row = if is_behind window row.event then mail_of row row.mail else None
+mail_behind window row = if comes_behind window row.event then handled_mail row row.mail else None
 
-abbrev pub with_mail : Option LeavingMail → List LeavingMail → List LeavingMail
-with_mail None mails = mails
-with_mail (Some mail) mails = mail ∷ mails
+abbrev pub with_handled : Option LeavingMail → List LeavingMail → List LeavingMail
+with_handled None mails = mails
+with_handled (Some mail) mails = mail ∷ mails
 
 abbrev pub mails_behind : Option Window → List ChartRow → List LeavingMail
 mails_behind window [] = []
-mails_behind window (row ∷ rows) = with_mail (mail_behind window row) (mails_behind window rows)
+mails_behind window (row ∷ rows) = with_handled (mail_behind window row) (mails_behind window rows)
 
 -- the tasks that wait for a lock, each on a line of its own; only those of marked cores where actors are marked
 abbrev pub tasks_from : List Bool → ℕ → List WaitingTask → List WaitingTask
@@ -192,14 +192,14 @@ ends_early (Some window) events = nat_lt window.behind events
 -- ---- what stands below the rows
 
 -- from a line on, the mails that leave the window or the range, and below them the tasks that wait when the run ends
-abbrev pub left_in : Keeping → Chart → List ChartRow → ℕ → List LeavingMail
-left_in K chart kept line = left_from chart.rows kept line (mails_behind K.window chart.rows ++ chart.leaving)
+abbrev pub left_below : Keeping → Chart → List ChartRow → ℕ → List LeavingMail
+left_below K chart kept line = left_from chart.rows kept line (mails_behind K.window chart.rows ++ chart.leaving)
 
-abbrev pub waits_in : Keeping → Chart → ℕ → List WaitingTask
-waits_in K chart line = if ends_early K.window chart.events then [] else tasks_from K.actors line chart.waiting
+abbrev pub waits_below : Keeping → Chart → ℕ → List WaitingTask
+waits_below K chart line = if ends_early K.window chart.events then [] else tasks_from K.actors line chart.waiting
 
-abbrev pub tasks_in : Keeping → Chart → List ChartRow → ℕ → List WaitingTask
-tasks_in K chart kept line = waits_in K chart (line + length (left_in K chart kept line))
+abbrev pub tasks_below : Keeping → Chart → List ChartRow → ℕ → List WaitingTask
+tasks_below K chart kept line = waits_below K chart (line + length (left_below K chart kept line))
 
 -- ---- the chart
 
@@ -222,7 +222,7 @@ chart_with columns fit note chart rows leaving tasks line =
 -- the chart of the rows that are kept, where the next line is this one: their mails and tasks stand below them
 abbrev pub chart_by : Keeping → Columns → Fit → List ℕ → Chart → List ChartRow → ℕ → Chart
 chart_by K columns fit note chart kept line =
-    chart_with columns fit note chart (with_origins chart.rows kept) (left_in K chart kept line) (tasks_in K chart kept line) line
+    chart_with columns fit note chart (with_origins chart.rows kept) (left_below K chart kept line) (tasks_below K chart kept line) line
 
 abbrev pub kept_chart : Keeping → Columns → Fit → List ℕ → Chart → Chart
 kept_chart K columns fit note chart = chart_by K columns fit note chart (kept_rows K chart) (line_after K chart.shape 0 chart.rows)

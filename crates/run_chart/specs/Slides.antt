@@ -22,11 +22,11 @@ abbrev pub slide_columns : ℕ
 slide_columns = 5
 
 -- a slide has room for a chart of at most so many lines, with at most so many columns before the keeper's
-abbrev pub HasRoom : Chart → Type 0
-HasRoom chart = (chart.lines ≤ slide_lines) × (place_of chart Keeper ≤ slide_columns)
+abbrev pub FitsOnSlide : Chart → Type 0
+FitsOnSlide chart = (chart.lines ≤ slide_lines) × (place_of chart Keeper ≤ slide_columns)
 
-abbrev pub has_room : Chart → Bool
-has_room chart = nat_le chart.lines slide_lines && nat_le (place_of chart Keeper) slide_columns
+abbrev pub fits_on_slide : Chart → Bool
+fits_on_slide chart = nat_le chart.lines slide_lines && nat_le (place_of chart Keeper) slide_columns
 
 -- a slide has columns only for the cores and banks that have something to do on it
 abbrev pub columns_on : Fit → Columns → Columns
@@ -37,8 +37,8 @@ columns_on Slide columns = Used
 abbrev pub slide_of : Keeping → Chart → Chart
 slide_of K chart = kept_chart K Used Slide [] chart
 
-abbrev pub fits : Keeping → Chart → Bool
-fits K chart = has_room (slide_of K chart)
+abbrev pub slide_fits : Keeping → Chart → Bool
+slide_fits K chart = fits_on_slide (slide_of K chart)
 
 -- ---- which rows have room
 
@@ -73,13 +73,13 @@ within_rows K chart count = within K (window_of (kept_rows K chart) chart.events
 -- the most rows, of at most so many, that have room; a single one is shown even where it has none
 abbrev pub most_rows : Keeping → Chart → ℕ → ℕ
 most_rows K chart 0 = 1
-most_rows K chart (suc n) = if fits (within_rows K chart (suc n)) chart then suc n else most_rows K chart n
+most_rows K chart (suc n) = if slide_fits (within_rows K chart (suc n)) chart then suc n else most_rows K chart n
 
 -- ---- the choice
 
 -- what is kept of a chart on a picture of a size: on a slide no more than has room
 abbrev pub on_slide : Keeping → Chart → Keeping
-on_slide K chart = if fits K chart then K else within_rows K chart (most_rows K chart slide_lines)
+on_slide K chart = if slide_fits K chart then K else within_rows K chart (most_rows K chart slide_lines)
 
 abbrev pub fitted : Fit → Keeping → Chart → Keeping
 fitted Rows K chart = K

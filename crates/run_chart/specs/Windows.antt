@@ -7,14 +7,14 @@ use Rattle.run_chart.specs.declared.keeping.Window.{Window}
 use Rattle.run_chart.specs.declared.parts.ChartRow.{ChartRow}
 use Rattle.run_chart.specs.declared.parts.LeavingMail.{LeavingMail}
 use Rattle.run_chart.specs.Arrows.{line_of_event, LeavesFromSender}
-use Rattle.run_chart.specs.Keeping.{is_behind}
+use Rattle.run_chart.specs.Keeping.{comes_behind}
 
 -- an event behind the window handles the mail that this event sent: its arrow begins in the column of the sender's actor and on the line
 -- of the sender's row, and ends in the column of the actor that handles it
 pub record IsHandledBehind (S : State) (events : List Event) (rows : List ChartRow) (window : Option Window) (mail : LeavingMail) : Type 0 where
   pub event : ℕ
   pub handler : ℕ
-  pub behind : is_behind window handler ≡ true
+  pub behind : comes_behind window handler ≡ true
   pub sends : IsSender S events event handler
   pub actor : actor_at S events event ≡ Some mail.sender
   pub line : line_of_event event rows ≡ Some mail.sent

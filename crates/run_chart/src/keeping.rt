@@ -3,7 +3,7 @@ ghost use Rattle.std.specs.Prelude.{◌≡◌, ◌+◌, ◌≤◌, ◌&&◌, ◌
 ghost use Rattle.std.specs.List.{list_any};
 ghost use Rattle.run_chart.specs.Arrows.{line_of_event};
 ghost use Rattle.run_chart.specs.Drawing.{row_lines};
-ghost use Rattle.run_chart.specs.Keeping.{accesses, chart_by, ends_early, event_on_line, has_to_do, is_about, is_behind, is_in_window, is_kept, is_later, is_of_actors, is_of_marked, is_of_words, is_plain, kept_changes, kept_chart, left_from, left_in, line_after, line_of, mail_behind, mail_of, mails_behind, moved_from, moved_line, moved_origin, row_from, rows_from, shows_plain, tasks_from, tasks_in, waits_in, with_origin, with_origins};
+ghost use Rattle.run_chart.specs.Keeping.{accesses, chart_by, ends_early, event_on_line, has_to_do, is_about, comes_behind, is_in_window, is_kept, is_later, is_of_actors, is_of_marked, is_of_words, is_plain, kept_changes, kept_chart, left_from, left_below, line_after, line_of, mail_behind, handled_mail, mails_behind, moved_from, moved_line, moved_origin, row_from, rows_from, shows_plain, tasks_from, tasks_below, waits_below, with_origin, with_origins};
 ghost use Rattle.run_chart.specs.Choosing.{is_all, note_by, note_of};
 ghost use Rattle.run_chart.specs.Places.{is_shown};
 
@@ -97,8 +97,8 @@ fn is_in_window(window: Option<Window>, event: u32) -> bool
 }
 
 /// Whether an event comes behind the window.
-fn is_behind(window: Option<Window>, event: u32) -> bool
-    ensures { result ≡ is_behind window event }
+fn comes_behind(window: Option<Window>, event: u32) -> bool
+    ensures { result ≡ comes_behind window event }
 {
     match window {
         Some(window) => window.behind <= event,
@@ -412,8 +412,8 @@ fn left_mails(
 }
 
 /// The message that a row's event handles, if a row sent it.
-fn mail_of(row: &ChartRow) -> Option<LeavingMail>
-    ensures { result ≡ mail_of row.now row.now.mail }
+fn handled_mail(row: &ChartRow) -> Option<LeavingMail>
+    ensures { result ≡ handled_mail row.now row.now.mail }
 {
     match row.mail {
         Some(
@@ -437,8 +437,8 @@ fn mail_of(row: &ChartRow) -> Option<LeavingMail>
 fn mail_behind(window: Option<Window>, row: &ChartRow) -> Option<LeavingMail>
     ensures { result ≡ mail_behind window row.now }
 {
-    if is_behind(window, row.event) {
-        mail_of(row)
+    if comes_behind(window, row.event) {
+        handled_mail(row)
     } else {
         None
     }
@@ -555,7 +555,7 @@ fn leaving_below(
     placed: &[ChartRow],
     line: u32,
 ) -> Result<Sequence<LeavingMail>, Memory>
-    ensures { IfOk result (λ left. left ≡ left_in keeping.now chart.now placed.now line) }
+    ensures { IfOk result (λ left. left ≡ left_below keeping.now chart.now placed.now line) }
 {
     let whole = chart.rows.as_slice();
     let behind = mails_behind(alloc, keeping.window, whole)?;
@@ -570,7 +570,7 @@ fn waiting_below(
     chart: &Chart,
     line: u32,
 ) -> Result<Sequence<WaitingTask>, Memory>
-    ensures { IfOk result (λ kept. kept ≡ waits_in keeping.now chart.now line) }
+    ensures { IfOk result (λ kept. kept ≡ waits_below keeping.now chart.now line) }
 {
     if ends_early(keeping.window, chart.events) {
         Ok(Sequence::new(alloc))

@@ -6,22 +6,22 @@ ghost use Rattle.run_chart.specs.declared.parts.Chart.{Chart};
 ghost use Rattle.run_chart.specs.declared.parts.Fit.TheVariants.{Slide};
 ghost use Rattle.run_chart.specs.Keeping.{kept_chart};
 ghost use Rattle.run_chart.specs.Picture.{height, width};
-ghost use Rattle.run_chart.specs.Slides.{columns_on, fitted, most_rows, slide_lines, within_rows, HasRoom};
+ghost use Rattle.run_chart.specs.Slides.{columns_on, fitted, most_rows, slide_lines, within_rows, FitsOnSlide};
 
 /// A slide has at most 31 lines and columns of at most five cores and banks, or it shows one of the rows that are kept.
 pub fn a_slide_has_room_for_its_lines_and_columns()
     ensures { (K : Keeping) (columns : Columns) (note : List ℕ) (chart : Chart)
-        → HasRoom (kept_chart (fitted Slide K chart) (columns_on Slide columns) Slide note chart) ⊎ (fitted Slide K chart ≡ within_rows K chart 1) }
+        → FitsOnSlide (kept_chart (fitted Slide K chart) (columns_on Slide columns) Slide note chart) ⊎ (fitted Slide K chart ≡ within_rows K chart 1) }
 {}
 
 /// A slide leaves out no row that has room: there is none for any greater number of the rows up to 31.
 pub fn a_slide_has_as_many_rows_as_have_room()
     ensures { (K : Keeping) (columns : Columns) (note : List ℕ) (chart : Chart) (count : ℕ) → most_rows K chart slide_lines < count → count ≤ slide_lines
-        → HasRoom (kept_chart (within_rows K chart count) (columns_on Slide columns) Slide note chart) → ⊥ }
+        → FitsOnSlide (kept_chart (within_rows K chart count) (columns_on Slide columns) Slide note chart) → ⊥ }
 {}
 
 /// A slide that has room for its lines and columns is no wider than 1,280 points and no higher than 720. It is shown in that size, so
 /// nothing on it is made smaller: a line is at least 18 points high.
 pub fn lines_of_a_slide_are_not_made_smaller()
-    ensures { (chart : Chart) → chart.fit ≡ Slide → HasRoom chart → (width chart ≤ 1280) × (height chart ≤ 720) }
+    ensures { (chart : Chart) → chart.fit ≡ Slide → FitsOnSlide chart → (width chart ≤ 1280) × (height chart ≤ 720) }
 {}

@@ -1,7 +1,7 @@
 //! What a slide shows of a chart: as many events as have room, from the first one on that is no plain instruction.
 ghost use Rattle.std.specs.Prelude.{◌≡◌, ◌≤◌, slice_get, IfOk};
 ghost use Rattle.run_chart.specs.Keeping.{kept_rows};
-ghost use Rattle.run_chart.specs.Slides.{columns_on, event_or, first_place, fits, fitted, has_room, is_shown_first, most_rows, on_slide, slide_of, window_of, within_rows};
+ghost use Rattle.run_chart.specs.Slides.{columns_on, event_or, first_place, slide_fits, fitted, fits_on_slide, is_shown_first, most_rows, on_slide, slide_of, window_of, within_rows};
 
 use crate::finishing::Columns;
 use crate::keeping::{Keeping, Window, chart_with, is_plain};
@@ -118,18 +118,18 @@ fn slide_of(alloc: Global, chart: &Chart, keeping: &Keeping) -> Result<Chart, Me
 }
 
 /// Whether a slide has room for a chart.
-fn has_room(chart: &Chart) -> bool
-    ensures { result ≡ has_room chart.now }
+fn fits_on_slide(chart: &Chart) -> bool
+    ensures { result ≡ fits_on_slide chart.now }
 {
     chart.lines <= SLIDE_LINES && chart.place_of(Actor::Keeper) <= SLIDE_COLUMNS
 }
 
 /// Whether a slide has room for what is kept.
-fn fits(alloc: Global, chart: &Chart, keeping: &Keeping) -> Result<bool, Memory>
-    ensures { IfOk result (λ fit. fit ≡ fits keeping.now chart.now) }
+fn slide_fits(alloc: Global, chart: &Chart, keeping: &Keeping) -> Result<bool, Memory>
+    ensures { IfOk result (λ fit. fit ≡ slide_fits keeping.now chart.now) }
 {
     let slide = slide_of(alloc, chart, keeping)?;
-    Ok(has_room(&slide))
+    Ok(fits_on_slide(&slide))
 }
 
 /// Whether a slide has room for so many of these rows.
@@ -142,10 +142,10 @@ fn fits_rows(
 ) -> Result<bool, Memory>
     requires most { count ≤ 31 }
     requires rows { rows.now ≡ kept_rows keeping.now chart.now }
-    ensures { IfOk result (λ fit. fit ≡ fits (within_rows keeping.now chart.now count) chart.now) }
+    ensures { IfOk result (λ fit. fit ≡ slide_fits (within_rows keeping.now chart.now count) chart.now) }
 {
     let kept = within_rows(alloc, chart, keeping, rows, count)?;
-    fits(alloc, chart, &kept)
+    slide_fits(alloc, chart, &kept)
 }
 
 /// The most of these rows that have room.
@@ -173,7 +173,7 @@ fn most_rows(
 fn on_slide(alloc: Global, chart: &Chart, keeping: &Keeping) -> Result<Keeping, Memory>
     ensures { IfOk result (λ kept. kept ≡ on_slide keeping.now chart.now) }
 {
-    if fits(alloc, chart, keeping)? {
+    if slide_fits(alloc, chart, keeping)? {
         return with_window(alloc, keeping, keeping.window);
     }
     let (rows, _) = keeping.rows(alloc, chart.shape, chart.rows.as_slice())?;

@@ -1,5 +1,5 @@
 use Rattle.std.proofs.Common.{◌≡◌, ◌-◌, false, sym, ◌∙◌, arith}
-use Rattle.run_chart.specs.Slides.{fits, within_rows}
+use Rattle.run_chart.specs.Slides.{slide_fits, within_rows}
 use Rattle.run_chart.proofs.Fitting.{found, passed}
 use Rattle.run_chart.proofs.slides.most_rows.Goals as goal
 
