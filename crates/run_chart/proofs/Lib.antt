@@ -8,6 +8,7 @@ pub mod Counted
 pub mod Each
 pub mod Fitting
 pub mod Flown
+pub mod Follow
 pub mod Gathered
 pub mod Items
 pub mod Kept

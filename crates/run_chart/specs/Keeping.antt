@@ -72,14 +72,18 @@ abbrev pub is_of_actors : List Bool → ℕ → Bool
 is_of_actors [] index = true
 is_of_actors (m ∷ ms) index = is_shown (m ∷ ms) index
 
+-- an event is asked for as a plain instruction, if it is one, for its words, and for its actor
+abbrev pub is_asked_for : Keeping → Shape → ChartRow → Bool
+is_asked_for K shape row =
+    (not (is_plain row) || shows_plain K.plain K.later_words row.about) && is_of_words K.words row && is_of_actors K.actors (actor_index shape.cores shape.banks row.actor)
+
 -- where there is a window: its events; otherwise all
 abbrev pub is_in_window : Option Window → ℕ → Bool
 is_in_window None event = true
 is_in_window (Some window) event = nat_le window.first event && nat_lt event window.behind
 
 abbrev pub is_kept : Keeping → Shape → ChartRow → Bool
-is_kept K shape row =
-    is_in_window K.window row.event && (not (is_plain row) || shows_plain K.plain K.later_words row.about) && is_of_words K.words row && is_of_actors K.actors (actor_index shape.cores shape.banks row.actor)
+is_kept K shape row = is_in_window K.window row.event && is_asked_for K shape row
 
 -- ---- their rows
 

@@ -3,7 +3,7 @@ ghost use Rattle.std.specs.Prelude.{◌≡◌, ◌+◌, ◌≤◌, ◌&&◌, ◌
 ghost use Rattle.std.specs.List.{list_any};
 ghost use Rattle.run_chart.specs.Arrows.{line_of_event};
 ghost use Rattle.run_chart.specs.Drawing.{row_lines};
-ghost use Rattle.run_chart.specs.Keeping.{accesses, chart_by, ends_early, event_on_line, has_to_do, is_about, comes_behind, is_in_window, is_kept, is_later, is_of_actors, is_of_marked, is_of_words, is_plain, kept_changes, kept_chart, left_from, left_below, line_after, line_of, mail_behind, handled_mail, mails_behind, moved_from, moved_line, moved_origin, row_from, rows_from, shows_plain, tasks_from, tasks_below, waits_below, with_origin, with_origins};
+ghost use Rattle.run_chart.specs.Keeping.{accesses, chart_by, ends_early, event_on_line, has_to_do, is_about, is_asked_for, comes_behind, is_in_window, is_kept, is_later, is_of_actors, is_of_marked, is_of_words, is_plain, kept_changes, kept_chart, left_from, left_below, line_after, line_of, mail_behind, handled_mail, mails_behind, moved_from, moved_line, moved_origin, row_from, rows_from, shows_plain, tasks_from, tasks_below, waits_below, with_origin, with_origins};
 ghost use Rattle.run_chart.specs.Choosing.{is_all, note_by, note_of};
 ghost use Rattle.run_chart.specs.Places.{is_shown};
 
@@ -511,17 +511,23 @@ fn lines_behind(line: u32, count: usize) -> Result<u32, Memory>
 }
 
 impl Keeping {
-    /// Whether the event of a row is kept, on a machine of this shape.
-    fn is_kept(&self, shape: Shape, row: &ChartRow) -> bool
-        ensures { result ≡ is_kept self.now shape row.now }
+    /// Whether the event of a row is asked for, on a machine of this shape.
+    fn is_asked_for(&self, shape: Shape, row: &ChartRow) -> bool
+        ensures { result ≡ is_asked_for self.now shape row.now }
     {
-        is_in_window(self.window, row.event)
-            && (!is_plain(row) || self.plain.shows(self.later_words.as_slice(), row.about))
+        (!is_plain(row) || self.plain.shows(self.later_words.as_slice(), row.about))
             && is_of_words(self.words.as_slice(), row)
             && is_of_actors(
                 self.actors.as_slice(),
                 row.actor.index(shape.cores, shape.banks),
             )
+    }
+
+    /// Whether it is kept: it is asked for, and one of the window's.
+    fn is_kept(&self, shape: Shape, row: &ChartRow) -> bool
+        ensures { result ≡ is_kept self.now shape row.now }
+    {
+        is_in_window(self.window, row.event) && self.is_asked_for(shape, row)
     }
 
     /// The rows of the events that are kept, one below the other, and the line after them.

@@ -48,7 +48,7 @@ pub use picture_laws::{
 };
 pub use slide_laws::{
     a_slide_has_as_many_rows_as_have_room, a_slide_has_room_for_its_lines_and_columns,
-    lines_of_a_slide_are_not_made_smaller,
+    lines_of_a_slide_are_not_made_smaller, rows_of_a_slide_follow_each_other,
 };
 pub use slides::{columns_on, fitted};
 pub use states::{WordChange, WordState};
