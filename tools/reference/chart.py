@@ -98,7 +98,7 @@ class Chart:
         parts += [] if words is None else [" words" + ",".join(" " + self.word(word) for word in wanted)]
         parts += [] if actors is None else [" actors" + ",".join(" " + self.actor(actor) for actor in chosen)]
         if window:
-            parts.append(" slide of events %d to %d, %d left out" % (window[0], max(window[1] - 1, 0), self.counted - len(rows)))
+            parts.append(" events %d to %d, %d left out" % (window[0], max(window[1] - 1, 0), self.counted - len(rows)))
         if parts:
             self.note = "; kept %d of %d events:%s" % (len(rows), self.counted, ";".join(parts))
 

@@ -125,7 +125,7 @@ has_no_mark (m ∷ ms) = false
 -- the events of a slide, and how many of the range are left out in all
 unfoldable pub window_note : Window → ℕ → List ℕ
 window_note window left =
-    codes " slide of events " ++ decimal window.first ++ codes " to " ++ decimal (window.behind - 1) ++ codes ", " ++ decimal left ++ codes " left out"
+    codes " events " ++ decimal window.first ++ codes " to " ++ decimal (window.behind - 1) ++ codes ", " ++ decimal left ++ codes " left out"
 
 abbrev pub part_by_window : Bool → ℕ → Option Window → List ℕ
 part_by_window first left None = []

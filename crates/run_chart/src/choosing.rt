@@ -302,7 +302,7 @@ fn push_window(out: &mut Vec<u8>, window: Window, left: u64) -> Result<(), Memor
     push_pieces(
         out,
         &[
-            Bytes(b" slide of events "),
+            Bytes(b" events "),
             Number(window.first),
             Bytes(b" to "),
             Number(window.behind.saturating_sub(1)),
