@@ -1,12 +1,25 @@
 -- How many rows have room on a slide.
-use Rattle.std.proofs.Common.{◌≡◌, ◌⊎◌, ⊥, inl, inr, ℕ, zero, suc, ◌+◌, ◌-◌, ◌<◌, ◌≤◌, ◌==◌, ◌&&◌, Bool, true, false, nat_le, refl, sym, ap, subst, ◌∙◌, arith}
+use Rattle.std.proofs.Common.{◌≡◌, ◌⊎◌, ⊥, inl, inr, ℕ, zero, suc, ◌+◌, ◌-◌, ◌<◌, ◌≤◌, ◌==◌, ◌&&◌, Bool, true, false, nat_le, List, [], ◌∷◌, length, position, Some, refl, sym, ap, subst, ◌∙◌, arith}
 use Rattle.std.proofs.lemmas.Bool.{eqb-true}
 use Rattle.std.proofs.lemmas.Bool.Decides.{nat_tests}
+use Rattle.std.proofs.lemmas.List.Quantifiers.{position-Some}
+use Rattle.std.proofs.lemmas.Option.{none-some}
 use Rattle.message_net.specs.declared.actor.Actor.TheVariants.{Keeper}
 use Rattle.run_chart.specs.declared.keeping.Keeping.{Keeping}
 use Rattle.run_chart.specs.declared.parts.Chart.{Chart}
+use Rattle.run_chart.specs.declared.parts.ChartRow.{ChartRow}
 use Rattle.run_chart.specs.Places.{place_of}
-use Rattle.run_chart.specs.Slides.{slide_fits, fits_on_slide, most_rows, on_slide, slide_of, within_rows, FitsOnSlide}
+use Rattle.run_chart.specs.Slides.{is_shown_first, slide_fits, fits_on_slide, most_rows, on_slide, slide_of, within_rows, FitsOnSlide}
+
+-- the place of a row is one of its list
+pub place_within : (rows : List ChartRow) (place : ℕ) → position is_shown_first rows ≡ Some place → place ≤ length rows
+place_within rows place is = by_row rows is where
+  within : (row : ChartRow) (others : List ChartRow) → position is_shown_first (row ∷ others) ≡ Some place → place ≤ length (row ∷ others)
+  within row others found = let less : place < length (row ∷ others) = (position-Some is_shown_first (row ∷ others) place row found).0 in omega (arith, less)
+
+  by_row : (rows : List ChartRow) → position is_shown_first rows ≡ Some place → place ≤ length rows
+  by_row [] found = absurd (none-some place found)
+  by_row (row ∷ others) found = within row others found
 
 module _ (K : Keeping) (chart : Chart) where
   rows-fit : ℕ → Bool

@@ -1,5 +1,5 @@
 -- The rows of a slide follow each other among those that are kept.
-use Rattle.std.proofs.Common.{◌≡◌, ◌⊎◌, inl, inr, ℕ, zero, suc, ◌+◌, ◌-◌, ◌<◌, ◌≤◌, ◌&&◌, min, Bool, true, false, nat_le, nat_lt, List, [], ◌∷◌, length, map, filter, take, drop, slice_get, Option, Some, None, if◌then◌else◌, refl, sym, ap, subst, ◌∙◌, arith}
+use Rattle.std.proofs.Common.{◌≡◌, ◌⊎◌, inl, inr, ℕ, zero, suc, ◌+◌, ◌-◌, ◌<◌, ◌≤◌, ◌&&◌, min, Bool, true, false, nat_le, nat_lt, List, [], ◌∷◌, length, map, filter, take, drop, position, slice_get, Option, Some, None, if◌then◌else◌, refl, sym, ap, subst, ◌∙◌, arith}
 use Rattle.std.proofs.lemmas.Bool.Decides.{nat_tests}
 use Rattle.std.proofs.lemmas.List.{length-drop, length-take}
 use Rattle.std.specs.List.{range_with_len}
@@ -19,7 +19,7 @@ use Rattle.run_chart.specs.declared.parts.ChartRow.{ChartRow}
 use Rattle.run_chart.specs.declared.parts.Fit.{Fit}
 use Rattle.run_chart.specs.Charts.{chart_in, chart_of, drawn, inside}
 use Rattle.run_chart.specs.Keeping.{is_asked_for, is_in_window, is_kept, kept_chart, kept_rows}
-use Rattle.run_chart.specs.Slides.{event_or, first_place, window_of, within, within_rows}
+use Rattle.run_chart.specs.Slides.{event_or, from_first, is_shown_first, place_or_first, window_of, within, within_rows}
 use Rattle.run_chart.proofs.KeptRows.{events-stay, kept-events}
 use Rattle.run_chart.proofs.RangeRows.{numbered-rows}
 
@@ -101,6 +101,22 @@ numbered-place high [] n = refl
 numbered-place high (row ∷ rows) zero = refl
 numbered-place high (row ∷ rows) (suc n) = numbered-place high rows n
 
+dropped-place : (rows : List ChartRow) (s n : ℕ) → slice_get (drop s rows) n ≡ slice_get rows (s + n)
+dropped-place [] zero n = refl
+dropped-place [] (suc s) n = refl
+dropped-place (row ∷ rows) zero n = refl
+dropped-place (row ∷ rows) (suc s) n = dropped-place rows s n
+
+dropped-events : (rows : List ChartRow) (s : ℕ) → map event_of (drop s rows) ≡ drop s (map event_of rows)
+dropped-events [] zero = refl
+dropped-events [] (suc s) = refl
+dropped-events (row ∷ rows) zero = refl
+dropped-events (row ∷ rows) (suc s) = dropped-events rows s
+
+-- the event behind so many rows, which are left of more
+event-behind : (high : ℕ) (rows : List ChartRow) (s n : ℕ) → event_or high (slice_get (drop s rows) n) ≡ number_at high (map event_of rows) (s + n)
+event-behind high rows s n = ap (event_or high) (dropped-place rows s n) ∙ numbered-place high rows (s + n)
+
 rise-filter : (p : ChartRow → Bool) (low high : ℕ) (rows : List ChartRow) → Rise low high (map event_of rows) → Rise low high (map event_of (filter p rows))
 rise-filter p low high [] rise = rise
 rise-filter p low high (row ∷ rows) rise = by_test (p row) refl (rise-filter p (row.event + 1) high rows rise.2) where
@@ -150,24 +166,28 @@ module _ (K : Keeping) (chart : Chart) (none : K.window ≡ None) (rise : Rise 0
   whole-rises = subst (Rise 0 chart.events) (sym whole-is) (rise-filter (is_kept K chart.shape) 0 chart.events chart.rows rise)
 
   pub rows-follow : (shown : Columns) (fit : Fit) (note : List ℕ) (count : ℕ)
-      → map event_of (kept_chart (within_rows K chart count) shown fit note chart).rows ≡ take count (drop (first_place (kept_rows K chart)) (map event_of (kept_rows K chart)))
+      → map event_of (kept_chart (within_rows K chart count) shown fit note chart).rows ≡ take count (map event_of (from_first (kept_rows K chart)))
   rows-follow shown fit note count =
       events-stay chart.rows (kept_rows (within_rows K chart count) chart) (kept_rows (within_rows K chart count) chart)
       ∙ kept-events (within_rows K chart count) chart.shape 0 chart.rows
-      ∙ window-events K chart.shape (window_of (kept_rows K chart) chart.events count) none chart.rows
+      ∙ window-events K chart.shape (window_of (from_first (kept_rows K chart)) chart.events count) none chart.rows
       ∙ ap (filter (in_span first behind)) (sym whole-is)
-      ∙ ap (λ (a : ℕ). filter (in_span a behind) whole) (numbered-place chart.events (kept_rows K chart) place)
-      ∙ ap (λ (b : ℕ). filter (in_span (number_at chart.events whole place) b) whole) (numbered-place chart.events (kept_rows K chart) (place + count))
+      ∙ ap (λ (a : ℕ). filter (in_span a behind) whole) (event-behind chart.events (kept_rows K chart) place 0 ∙ ap (number_at chart.events whole) no-more)
+      ∙ ap (λ (b : ℕ). filter (in_span (number_at chart.events whole place) b) whole) (event-behind chart.events (kept_rows K chart) place count)
       ∙ span-is 0 chart.events whole place count whole-rises
+      ∙ ap (take count) (sym (dropped-events (kept_rows K chart) place))
     where
       place : ℕ
-      place = first_place (kept_rows K chart)
+      place = place_or_first (position is_shown_first (kept_rows K chart))
+
+      no-more : place + 0 ≡ place
+      no-more = omega arith
 
       first : ℕ
-      first = event_or chart.events (slice_get (kept_rows K chart) place)
+      first = event_or chart.events (slice_get (from_first (kept_rows K chart)) 0)
 
       behind : ℕ
-      behind = event_or chart.events (slice_get (kept_rows K chart) (place + count))
+      behind = event_or chart.events (slice_get (from_first (kept_rows K chart)) count)
 
 -- ---- in a run
 

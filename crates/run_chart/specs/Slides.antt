@@ -2,7 +2,7 @@
 --
 -- A slide has 1,280 by 720 points. Below its head, which takes 121 points, 31 lines of 18 points each have room, and beside the numbers of
 -- the events the columns of five cores and banks and of the keeper.
-use Rattle.std.specs.Prelude.{ℕ, suc, ◌+◌, ◌≤◌, ◌&&◌, Bool, not, nat_le, List, [], position, slice_get, Option, Some, None, if◌then◌else◌}
+use Rattle.std.specs.Prelude.{ℕ, suc, ◌≤◌, ◌&&◌, Bool, not, nat_le, List, [], drop, position, slice_get, Option, Some, None, if◌then◌else◌}
 use Rattle.message_net.specs.declared.actor.Actor.TheVariants.{Keeper}
 use Rattle.run_chart.specs.declared.finishing.Columns.{Columns}
 use Rattle.run_chart.specs.declared.finishing.Columns.TheVariants.{Used}
@@ -42,7 +42,7 @@ slide_fits K chart = fits_on_slide (slide_of K chart)
 
 -- ---- which rows have room
 
--- the row that a slide begins with: the first one that is of no plain instruction, if there is one
+-- the rows from the first one on that is of no plain instruction; all where there is none
 abbrev pub is_shown_first : ChartRow → Bool
 is_shown_first row = not (is_plain row)
 
@@ -50,25 +50,24 @@ abbrev pub place_or_first : Option ℕ → ℕ
 place_or_first None = 0
 place_or_first (Some place) = place
 
-abbrev pub first_place : List ChartRow → ℕ
-first_place rows = place_or_first (position is_shown_first rows)
+abbrev pub from_first : List ChartRow → List ChartRow
+from_first rows = drop (place_or_first (position is_shown_first rows)) rows
 
 -- the event of a row; the number of events where there is no row
 abbrev pub event_or : ℕ → Option ChartRow → ℕ
 event_or events None = events
 event_or events (Some row) = row.event
 
--- the window of so many of the rows: it has all events up to that of the next row
+-- the window of so many rows: it has all events up to that of the next row
 abbrev pub window_of : List ChartRow → ℕ → ℕ → Window
-window_of rows events count =
-    record { first = event_or events (slice_get rows (first_place rows)); behind = event_or events (slice_get rows (first_place rows + count)) }
+window_of rows events count = record { first = event_or events (slice_get rows 0); behind = event_or events (slice_get rows count) }
 
--- what is kept in the window of so many of the rows that are kept
+-- what is kept in the window of so many of the rows that are kept, from the first one on
 abbrev pub within : Keeping → Window → Keeping
 within K window = record K { window = Some window }
 
 abbrev pub within_rows : Keeping → Chart → ℕ → Keeping
-within_rows K chart count = within K (window_of (kept_rows K chart) chart.events count)
+within_rows K chart count = within K (window_of (from_first (kept_rows K chart)) chart.events count)
 
 -- the most rows, of at most so many, that have room; a single one is shown even where it has none
 abbrev pub most_rows : Keeping → Chart → ℕ → ℕ

@@ -1,5 +1,5 @@
 //! What holds of every slide. A theorem is a function without effect; its contract states the theorem.
-ghost use Rattle.std.specs.Prelude.{◌≡◌, ◌⊎◌, ⊥, ℕ, ◌<◌, ◌≤◌, List, None, drop, map, take};
+ghost use Rattle.std.specs.Prelude.{◌≡◌, ◌⊎◌, ⊥, ℕ, ◌<◌, ◌≤◌, List, None, map, take};
 ghost use Rattle.message_net.specs.declared.event.Event.{Event};
 ghost use Rattle.registration_protocol.specs.Node.{Setting};
 ghost use Rattle.machine_rules.specs.State.{initial_state};
@@ -14,7 +14,7 @@ ghost use Rattle.run_chart.specs.declared.parts.Fit.TheVariants.{Slide};
 ghost use Rattle.run_chart.specs.Charts.{chart_of};
 ghost use Rattle.run_chart.specs.Keeping.{kept_chart, kept_rows};
 ghost use Rattle.run_chart.specs.Picture.{height, width};
-ghost use Rattle.run_chart.specs.Slides.{columns_on, first_place, fitted, most_rows, slide_lines, within_rows, FitsOnSlide};
+ghost use Rattle.run_chart.specs.Slides.{columns_on, from_first, fitted, most_rows, slide_lines, within_rows, FitsOnSlide};
 
 /// A slide has at most 31 lines and columns of at most five cores and banks, or it shows one of the rows that are kept.
 pub fn a_slide_has_room_for_its_lines_and_columns()
@@ -40,5 +40,5 @@ pub fn rows_of_a_slide_follow_each_other()
     ensures { (C : Setting) (events : List Event) (range : Range) (chain : List ℕ) (columns : Columns) (K : Keeping) (shown : Columns) (fit : Fit) (note : List ℕ) (count : ℕ) → IsRun (initial_state C) events
         → K.window ≡ None
         → map (λ (row : ChartRow). row.event) (kept_chart (within_rows K (chart_of C events range chain columns) count) shown fit note (chart_of C events range chain columns)).rows
-        ≡ take count (drop (first_place (kept_rows K (chart_of C events range chain columns))) (map (λ (row : ChartRow). row.event) (kept_rows K (chart_of C events range chain columns)))) }
+        ≡ take count (map (λ (row : ChartRow). row.event) (from_first (kept_rows K (chart_of C events range chain columns)))) }
 {}

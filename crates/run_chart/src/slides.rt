@@ -1,7 +1,7 @@
 //! What a slide shows of a chart: as many events as have room, from the first one on that is no plain instruction.
 ghost use Rattle.std.specs.Prelude.{◌≡◌, ◌≤◌, slice_get, IfOk};
 ghost use Rattle.run_chart.specs.Keeping.{kept_rows};
-ghost use Rattle.run_chart.specs.Slides.{columns_on, event_or, first_place, slide_fits, fitted, fits_on_slide, is_shown_first, most_rows, on_slide, slide_of, window_of, within_rows};
+ghost use Rattle.run_chart.specs.Slides.{columns_on, event_or, from_first, slide_fits, fitted, fits_on_slide, is_shown_first, most_rows, on_slide, slide_of, window_of, within_rows};
 
 use crate::finishing::Columns;
 use crate::keeping::{Keeping, Window, chart_with, is_plain};
@@ -33,13 +33,14 @@ fn is_shown_first(row: &ChartRow) -> bool
     !is_plain(row)
 }
 
-/// The place of the row that a slide begins with.
-fn first_place(rows: &[ChartRow]) -> usize
-    ensures { result ≡ first_place rows.now }
+/// The rows from the first one on with which a slide may begin; all rows where there is none.
+#[tactic(auto, using(crate::proofs::Fitting::place_within))]
+fn from_first(rows: &[ChartRow]) -> &[ChartRow]
+    ensures { result.now ≡ from_first rows.now }
 {
     match rows.iter().position(|row| is_shown_first(row)) {
-        Some(place) => place,
-        None => 0,
+        Some(place) => &rows[place..],
+        None => rows,
     }
 }
 
@@ -53,15 +54,13 @@ fn event_at(rows: &[ChartRow], place: usize, events: u32) -> u32
     }
 }
 
-/// The window of so many of the rows.
+/// The window of so many rows.
 fn window_of(rows: &[ChartRow], events: u32, count: usize) -> Window
-    requires { count ≤ 31 }
     ensures { result ≡ window_of rows.now events count }
 {
-    let place = first_place(rows);
     Window {
-        first: event_at(rows, place, events),
-        behind: event_at(rows, place + count, events),
+        first: event_at(rows, 0, events),
+        behind: event_at(rows, count, events),
     }
 }
 
@@ -85,7 +84,7 @@ fn with_window(alloc: Global, keeping: &Keeping, window: Option<Window>) -> Resu
     })
 }
 
-/// What is kept in the window of so many of these rows, which are those that are kept.
+/// What is kept in the window of so many of these rows, which are those that are kept, from the first one on.
 fn within_rows(
     alloc: Global,
     chart: &Chart,
@@ -93,8 +92,7 @@ fn within_rows(
     rows: &[ChartRow],
     count: usize,
 ) -> Result<Keeping, Memory>
-    requires most { count ≤ 31 }
-    requires rows { rows.now ≡ kept_rows keeping.now chart.now }
+    requires { rows.now ≡ from_first (kept_rows keeping.now chart.now) }
     ensures { IfOk result (λ kept. kept ≡ within_rows keeping.now chart.now count) }
 {
     with_window(alloc, keeping, Some(window_of(rows, chart.events, count)))
@@ -140,8 +138,7 @@ fn fits_rows(
     rows: &[ChartRow],
     count: usize,
 ) -> Result<bool, Memory>
-    requires most { count ≤ 31 }
-    requires rows { rows.now ≡ kept_rows keeping.now chart.now }
+    requires { rows.now ≡ from_first (kept_rows keeping.now chart.now) }
     ensures { IfOk result (λ fit. fit ≡ slide_fits (within_rows keeping.now chart.now count) chart.now) }
 {
     let kept = within_rows(alloc, chart, keeping, rows, count)?;
@@ -155,9 +152,8 @@ fn most_rows(
     keeping: &Keeping,
     rows: &[ChartRow],
 ) -> Result<usize, Memory>
-    requires { rows.now ≡ kept_rows keeping.now chart.now }
-    ensures count { IfOk result (λ count. count ≡ most_rows keeping.now chart.now 31) }
-    ensures most { IfOk result (λ count. count ≤ 31) }
+    requires { rows.now ≡ from_first (kept_rows keeping.now chart.now) }
+    ensures { IfOk result (λ count. count ≡ most_rows keeping.now chart.now 31) }
 {
     for fewer in 0..31 {
         let count = 31 - fewer;
@@ -176,9 +172,10 @@ fn on_slide(alloc: Global, chart: &Chart, keeping: &Keeping) -> Result<Keeping, 
     if slide_fits(alloc, chart, keeping)? {
         return with_window(alloc, keeping, keeping.window);
     }
-    let (rows, _) = keeping.rows(alloc, chart.shape, chart.rows.as_slice())?;
-    let count = most_rows(alloc, chart, keeping, rows.as_slice())?;
-    within_rows(alloc, chart, keeping, rows.as_slice(), count)
+    let (kept, _) = keeping.rows(alloc, chart.shape, chart.rows.as_slice())?;
+    let rows = from_first(kept.as_slice());
+    let count = most_rows(alloc, chart, keeping, rows)?;
+    within_rows(alloc, chart, keeping, rows, count)
 }
 
 /// What is kept of a chart on a picture of a size.
