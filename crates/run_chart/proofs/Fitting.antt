@@ -1,5 +1,6 @@
 -- How many rows have room on a slide.
-use Rattle.std.proofs.Common.{◌≡◌, ◌⊎◌, ⊥, inl, inr, ℕ, zero, suc, ◌+◌, ◌-◌, ◌<◌, ◌≤◌, ◌==◌, ◌&&◌, Bool, true, false, nat_le, List, [], ◌∷◌, length, position, Some, refl, sym, ap, subst, ◌∙◌, arith}
+use Rattle.std.proofs.Common.{◌≡◌, ◌⊎◌, ⊥, inl, inr, ℕ, zero, suc, ◌+◌, ◌-◌, ◌<◌, ◌≤◌, ◌==◌, ◌&&◌, Bool, true, false, nat_le, List, [], ◌∷◌, length, Some, refl, sym, ap, subst, ◌∙◌, arith}
+use Rattle.std.specs.Prelude.{position}
 use Rattle.std.proofs.lemmas.Bool.{eqb-true}
 use Rattle.std.proofs.lemmas.Bool.Decides.{nat_tests}
 use Rattle.std.proofs.lemmas.List.Quantifiers.{position-Some}
@@ -22,7 +23,7 @@ place_within rows place is = by_row rows is where
   by_row (row ∷ others) found = within row others found
 
 module _ (K : Keeping) (chart : Chart) where
-  rows-fit : ℕ → Bool
+  abbrev rows-fit : ℕ → Bool
   rows-fit n = slide_fits (within_rows K chart n) chart
 
   -- one step of the search

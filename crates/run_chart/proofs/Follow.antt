@@ -1,5 +1,6 @@
 -- The rows of a slide follow each other among those that are kept.
-use Rattle.std.proofs.Common.{◌≡◌, ◌⊎◌, inl, inr, ℕ, zero, suc, ◌+◌, ◌-◌, ◌<◌, ◌≤◌, ◌&&◌, min, Bool, true, false, nat_le, nat_lt, List, [], ◌∷◌, length, map, filter, take, drop, position, slice_get, Option, Some, None, if◌then◌else◌, refl, sym, ap, subst, ◌∙◌, arith}
+use Rattle.std.proofs.Common.{◌≡◌, ◌⊎◌, inl, inr, ℕ, zero, suc, ◌+◌, ◌-◌, ◌<◌, ◌≤◌, ◌&&◌, min, Bool, true, false, nat_le, nat_lt, List, [], ◌∷◌, length, map, filter, take, drop, slice_get, Option, Some, None, if◌then◌else◌, refl, sym, ap, subst, ◌∙◌, arith}
+use Rattle.std.specs.Prelude.{position}
 use Rattle.std.proofs.lemmas.Bool.Decides.{nat_tests}
 use Rattle.std.proofs.lemmas.List.{length-drop, length-take}
 use Rattle.std.specs.List.{range_with_len}
@@ -35,7 +36,7 @@ rise-lower low lower high [] less rise = omega (arith, less, rise)
 rise-lower low lower high (x ∷ xs) less rise = (omega (arith, less, rise.0), rise.1, rise.2)
 
 -- the number at a place; the bound where there is none
-abbrev number_at : ℕ → List ℕ → ℕ → ℕ
+abbrev abbrev number_at : ℕ → List ℕ → ℕ → ℕ
 number_at high [] n = high
 number_at high (x ∷ xs) zero = x
 number_at high (x ∷ xs) (suc n) = number_at high xs n
@@ -47,7 +48,7 @@ at-least low high (x ∷ xs) (suc n) rise = let later : x + 1 ≤ number_at high
 
 -- ---- the numbers of a span
 
-in_span : ℕ → ℕ → ℕ → Bool
+abbrev in_span : ℕ → ℕ → ℕ → Bool
 in_span a b x = nat_le a x && nat_lt x b
 
 never : (t : Bool) → (t && false) ≡ false
@@ -94,7 +95,7 @@ span-is low high (x ∷ xs) (suc s) n rise =
 -- ---- the events of rows
 
 abbrev event_of : ChartRow → ℕ
-event_of row = row.event
+event_of = λ (row : ChartRow). row.event
 
 numbered-place : (high : ℕ) (rows : List ChartRow) (n : ℕ) → event_or high (slice_get rows n) ≡ number_at high (map event_of rows) n
 numbered-place high [] n = refl
@@ -134,7 +135,7 @@ module _ (K : Keeping) (shape : Shape) (window : Window) (none : K.window ≡ No
   kept-asked : (row : ChartRow) → is_kept K shape row ≡ is_asked_for K shape row
   kept-asked row = ap (λ (o : Option Window). is_in_window o row.event && is_asked_for K shape row) none
 
-  span : ℕ → Bool
+  abbrev span : ℕ → Bool
   span = in_span window.first window.behind
 
   within-kept : (row : ChartRow) → is_kept (within K window) shape row ≡ (span row.event && is_kept K shape row)
@@ -156,7 +157,7 @@ module _ (K : Keeping) (shape : Shape) (window : Window) (none : K.window ≡ No
 
 -- the events of so many of the rows
 module _ (K : Keeping) (chart : Chart) (none : K.window ≡ None) (rise : Rise 0 chart.events (map event_of chart.rows)) where
-  whole : List ℕ
+  abbrev whole : List ℕ
   whole = map event_of (kept_rows K chart)
 
   whole-is : whole ≡ map event_of (filter (is_kept K chart.shape) chart.rows)
