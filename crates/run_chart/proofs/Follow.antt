@@ -36,7 +36,7 @@ rise-lower low lower high [] less rise = omega (arith, less, rise)
 rise-lower low lower high (x ∷ xs) less rise = (omega (arith, less, rise.0), rise.1, rise.2)
 
 -- the number at a place; the bound where there is none
-abbrev abbrev number_at : ℕ → List ℕ → ℕ → ℕ
+abbrev number_at : ℕ → List ℕ → ℕ → ℕ
 number_at high [] n = high
 number_at high (x ∷ xs) zero = x
 number_at high (x ∷ xs) (suc n) = number_at high xs n
