@@ -1,8 +1,9 @@
 -- How many rows have room on a slide.
-use Rattle.std.proofs.Common.{◌≡◌, ◌⊎◌, ⊥, inl, inr, ℕ, zero, suc, ◌+◌, ◌-◌, ◌<◌, ◌≤◌, ◌==◌, ◌&&◌, Bool, true, false, nat_le, List, [], ◌∷◌, length, Some, refl, sym, ap, subst, ◌∙◌, arith}
+use Rattle.std.proofs.Common.{◌≡◌, ◌⊎◌, inl, inr, ℕ, zero, suc, ◌+◌, ◌-◌, ◌<◌, ◌≤◌, ◌==◌, ◌&&◌, Bool, true, false, nat_le, List, [], ◌∷◌, length, take, drop, Some, refl, sym, ap, subst, ◌∙◌, arith}
 use Rattle.std.specs.Prelude.{position}
 use Rattle.std.proofs.lemmas.Bool.{eqb-true}
 use Rattle.std.proofs.lemmas.Bool.Decides.{nat_tests}
+use Rattle.std.proofs.lemmas.List.{length-drop, take_all}
 use Rattle.std.proofs.lemmas.List.Quantifiers.{position-Some}
 use Rattle.std.proofs.lemmas.Option.{none-some}
 use Rattle.message_net.specs.declared.actor.Actor.TheVariants.{Keeper}
@@ -11,6 +12,10 @@ use Rattle.run_chart.specs.declared.parts.Chart.{Chart}
 use Rattle.run_chart.specs.declared.parts.ChartRow.{ChartRow}
 use Rattle.run_chart.specs.Places.{place_of}
 use Rattle.run_chart.specs.Slides.{is_shown_first, slide_fits, fits_on_slide, most_rows, on_slide, slide_of, within_rows, FitsOnSlide}
+
+-- what is behind a place ends with the list
+pub rest_is : (rows : List ChartRow) (place : ℕ) → take (length rows - place) (drop place rows) ≡ drop place rows
+rest_is rows place = take_all (length rows - place) (drop place rows) (omega (arith, length-drop place rows))
 
 -- the place of a row is one of its list
 pub place_within : (rows : List ChartRow) (place : ℕ) → position is_shown_first rows ≡ Some place → place ≤ length rows
@@ -57,13 +62,19 @@ module _ (K : Keeping) (chart : Chart) where
   -- no greater number of rows has
   pub none-greater : (n count : ℕ) → most_rows K chart n < count → count ≤ n → slide_fits (within_rows K chart count) chart ≡ false
   none-greater zero count more most = absurd (omega (arith, more, most))
-  none-greater (suc n) count more most = by_test (rows-fit (suc n)) refl (count == suc n) refl where
-    by_test : (t : Bool) → rows-fit (suc n) ≡ t → (s : Bool) → (count == suc n) ≡ s → slide_fits (within_rows K chart count) chart ≡ false
-    by_test true e s f = absurd (let is : most_rows K chart (suc n) ≡ suc n = most-here n e in omega (arith, more, most, is))
-    by_test false e true f = rw (eqb-true count (suc n) f) e
-    by_test false e false f =
-        let less : count ≤ n = grind (arith, nat_tests, most, f) in
-        none-greater n count (subst (λ (x : ℕ). x < count) (most-below n e) more) less
+  none-greater (suc n) count more most = by_test (rows-fit (suc n)) refl (count == suc n) refl (λ fewer under. none-greater n count fewer under) where
+    by_test : (t : Bool) → rows-fit (suc n) ≡ t → (s : Bool) → (count == suc n) ≡ s
+        → (most_rows K chart n < count → count ≤ n → slide_fits (within_rows K chart count) chart ≡ false) → slide_fits (within_rows K chart count) chart ≡ false
+    by_test true e s f later = absurd (let is : most_rows K chart (suc n) ≡ suc n = most-here n e in omega (arith, more, most, is))
+    by_test false e true f later = rw (eqb-true count (suc n) f) e
+    by_test false e false f later =
+        later (subst (λ (x : ℕ). x < count) (most-below n e) more) (let under : count ≤ n = grind (arith, nat_tests, most, f) in under)
+
+  -- where none of 31 has room
+  pub finished : (fewer : ℕ) → 31 ≤ fewer → most_rows K chart (31 - fewer) ≡ 1
+  finished fewer all = rw none refl where
+    none : 31 - fewer ≡ 0
+    none = omega (arith, all)
 
   -- the test of room is what it says
   room-is : (c : Chart) → fits_on_slide c ≡ true → FitsOnSlide c

@@ -1,6 +1,5 @@
 -- The rows of a slide follow each other among those that are kept.
 use Rattle.std.proofs.Common.{◌≡◌, ◌⊎◌, inl, inr, ℕ, zero, suc, ◌+◌, ◌-◌, ◌<◌, ◌≤◌, ◌&&◌, min, Bool, true, false, nat_le, nat_lt, List, [], ◌∷◌, length, map, filter, take, drop, slice_get, Option, Some, None, if◌then◌else◌, refl, sym, ap, subst, ◌∙◌, arith}
-use Rattle.std.specs.Prelude.{position}
 use Rattle.std.proofs.lemmas.Bool.Decides.{nat_tests}
 use Rattle.std.proofs.lemmas.List.{length-drop, length-take}
 use Rattle.std.specs.List.{range_with_len}
@@ -20,7 +19,7 @@ use Rattle.run_chart.specs.declared.parts.ChartRow.{ChartRow}
 use Rattle.run_chart.specs.declared.parts.Fit.{Fit}
 use Rattle.run_chart.specs.Charts.{chart_in, chart_of, drawn, inside}
 use Rattle.run_chart.specs.Keeping.{is_asked_for, is_in_window, is_kept, kept_chart, kept_rows}
-use Rattle.run_chart.specs.Slides.{event_or, from_first, is_shown_first, place_or_first, window_of, within, within_rows}
+use Rattle.run_chart.specs.Slides.{event_or, from_first, first_place, place_or_first, window_of, within, within_rows}
 use Rattle.run_chart.proofs.KeptRows.{events-stay, kept-events}
 use Rattle.run_chart.proofs.RangeRows.{numbered-rows}
 
@@ -87,10 +86,14 @@ span-is low high [] zero zero rise = refl
 span-is low high [] zero (suc n) rise = refl
 span-is low high [] (suc s) zero rise = refl
 span-is low high [] (suc s) (suc n) rise = refl
-span-is low high (x ∷ xs) zero n rise = first-of-span x x high (x ∷ xs) n (omega arith, rise.1, rise.2) (omega arith)
+span-is low high (x ∷ xs) zero n rise =
+    let all : n ≡ 0 + n = omega arith in
+    subst (λ (k : ℕ). filter (in_span (number_at high (x ∷ xs) 0) (number_at high (x ∷ xs) k)) (x ∷ xs) ≡ take n (x ∷ xs)) all
+    (first-of-span x x high (x ∷ xs) n (omega arith, rise.1, rise.2) (omega arith))
 span-is low high (x ∷ xs) (suc s) n rise =
     let later : x + 1 ≤ number_at high xs s = at-least (x + 1) high xs s rise.2 in
-    rw (below-span (number_at high xs s) (number_at high xs (s + n)) x (omega (arith, later))) (span-is (x + 1) high xs s n rise.2)
+    let next : suc s + n ≡ suc (s + n) = omega arith in
+    rw (next, below-span (number_at high xs s) (number_at high xs (s + n)) x (omega (arith, later))) (span-is (x + 1) high xs s n rise.2)
 
 -- ---- the events of rows
 
@@ -105,8 +108,12 @@ numbered-place high (row ∷ rows) (suc n) = numbered-place high rows n
 dropped-place : (rows : List ChartRow) (s n : ℕ) → slice_get (drop s rows) n ≡ slice_get rows (s + n)
 dropped-place [] zero n = refl
 dropped-place [] (suc s) n = refl
-dropped-place (row ∷ rows) zero n = refl
-dropped-place (row ∷ rows) (suc s) n = dropped-place rows s n
+dropped-place (row ∷ rows) zero n =
+    let all : n ≡ 0 + n = omega arith in
+    ap (λ (k : ℕ). slice_get (row ∷ rows) k) all
+dropped-place (row ∷ rows) (suc s) n =
+    let next : suc (s + n) ≡ suc s + n = omega arith in
+    dropped-place rows s n ∙ ap (λ (k : ℕ). slice_get (row ∷ rows) k) next
 
 dropped-events : (rows : List ChartRow) (s : ℕ) → map event_of (drop s rows) ≡ drop s (map event_of rows)
 dropped-events [] zero = refl
@@ -179,7 +186,7 @@ module _ (K : Keeping) (chart : Chart) (none : K.window ≡ None) (rise : Rise 0
       ∙ ap (take count) (sym (dropped-events (kept_rows K chart) place))
     where
       place : ℕ
-      place = place_or_first (position is_shown_first (kept_rows K chart))
+      place = place_or_first (first_place (kept_rows K chart))
 
       no-more : place + 0 ≡ place
       no-more = omega arith

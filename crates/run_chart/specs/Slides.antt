@@ -2,7 +2,7 @@
 --
 -- A slide has 1,280 by 720 points. Below its head, which takes 121 points, 31 lines of 18 points each have room, and beside the numbers of
 -- the events the columns of five cores and banks and of the keeper.
-use Rattle.std.specs.Prelude.{ℕ, suc, ◌≤◌, ◌&&◌, Bool, not, nat_le, List, [], drop, position, slice_get, Option, Some, None, if◌then◌else◌}
+use Rattle.std.specs.Prelude.{ℕ, zero, suc, ◌≤◌, ◌&&◌, Bool, not, nat_le, List, [], drop, position, slice_get, Option, Some, None, if◌then◌else◌}
 use Rattle.message_net.specs.declared.actor.Actor.TheVariants.{Keeper}
 use Rattle.run_chart.specs.declared.finishing.Columns.{Columns}
 use Rattle.run_chart.specs.declared.finishing.Columns.TheVariants.{Used}
@@ -50,8 +50,11 @@ abbrev pub place_or_first : Option ℕ → ℕ
 place_or_first None = 0
 place_or_first (Some place) = place
 
+abbrev pub first_place : List ChartRow → Option ℕ
+first_place rows = position is_shown_first rows
+
 abbrev pub from_first : List ChartRow → List ChartRow
-from_first rows = drop (place_or_first (position is_shown_first rows)) rows
+from_first rows = drop (place_or_first (first_place rows)) rows
 
 -- the event of a row; the number of events where there is no row
 abbrev pub event_or : ℕ → Option ChartRow → ℕ
@@ -71,7 +74,7 @@ within_rows K chart count = within K (window_of (from_first (kept_rows K chart))
 
 -- the most rows, of at most so many, that have room; a single one is shown even where it has none
 abbrev pub most_rows : Keeping → Chart → ℕ → ℕ
-most_rows K chart 0 = 1
+most_rows K chart zero = 1
 most_rows K chart (suc n) = if slide_fits (within_rows K chart (suc n)) chart then suc n else most_rows K chart n
 
 -- ---- the choice

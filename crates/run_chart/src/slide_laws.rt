@@ -1,5 +1,5 @@
 //! What holds of every slide. A theorem is a function without effect; its contract states the theorem.
-ghost use Rattle.std.specs.Prelude.{◌≡◌, ◌⊎◌, ⊥, ℕ, ◌<◌, ◌≤◌, List, None, map, take};
+ghost use Rattle.std.specs.Prelude.{◌≡◌, ◌⊎◌, ℕ, ◌<◌, ◌≤◌, List, None, map, take};
 ghost use Rattle.message_net.specs.declared.event.Event.{Event};
 ghost use Rattle.registration_protocol.specs.Node.{Setting};
 ghost use Rattle.machine_rules.specs.State.{initial_state};

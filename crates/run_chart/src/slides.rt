@@ -1,7 +1,7 @@
 //! What a slide shows of a chart: as many events as have room, from the first one on that is no plain instruction.
 ghost use Rattle.std.specs.Prelude.{◌≡◌, ◌≤◌, slice_get, IfOk};
 ghost use Rattle.run_chart.specs.Keeping.{kept_rows};
-ghost use Rattle.run_chart.specs.Slides.{columns_on, event_or, from_first, slide_fits, fitted, fits_on_slide, is_shown_first, most_rows, on_slide, slide_of, window_of, within_rows};
+ghost use Rattle.run_chart.specs.Slides.{columns_on, event_or, first_place, from_first, slide_fits, fitted, fits_on_slide, is_shown_first, most_rows, on_slide, slide_of, window_of, within_rows};
 
 use crate::finishing::Columns;
 use crate::keeping::{Keeping, Window, chart_with, is_plain};
@@ -33,12 +33,19 @@ fn is_shown_first(row: &ChartRow) -> bool
     !is_plain(row)
 }
 
-/// The rows from the first one on with which a slide may begin; all rows where there is none.
+/// The place of the first row with which a slide may begin, if there is one.
+fn first_place(rows: &[ChartRow]) -> Option<usize>
+    ensures { result ≡ first_place rows.now }
+{
+    rows.iter().position(|row| is_shown_first(row))
+}
+
+/// The rows from there on; all rows where there is none.
 #[tactic(auto, using(crate::proofs::Fitting::place_within))]
 fn from_first(rows: &[ChartRow]) -> &[ChartRow]
     ensures { result.now ≡ from_first rows.now }
 {
-    match rows.iter().position(|row| is_shown_first(row)) {
+    match first_place(rows) {
         Some(place) => &rows[place..],
         None => rows,
     }
