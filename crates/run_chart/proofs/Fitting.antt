@@ -90,6 +90,13 @@ module _ (K : Keeping) (chart : Chart) where
       let second : nat_le (place_of c Keeper) 5 ≡ true = grind (arith, nat_tests, columns) in
       rw (first, second) refl
 
+  -- the two cases of a slide
+  pub whole-slide : slide_fits K chart ≡ true → on_slide K chart ≡ K
+  whole-slide e = rw e refl
+
+  pub part-slide : slide_fits K chart ≡ false → on_slide K chart ≡ within_rows K chart (most_rows K chart 31)
+  part-slide e = rw e refl
+
   -- a slide has room for its rows, or it is one row
   pub slide-room : FitsOnSlide (slide_of (on_slide K chart) chart) ⊎ (on_slide K chart ≡ within_rows K chart 1)
   slide-room = by_test (slide_fits K chart) refl (has-room 31) where
@@ -100,11 +107,9 @@ module _ (K : Keeping) (chart : Chart) where
     by_test : (t : Bool) → slide_fits K chart ≡ t → (slide_fits (within_rows K chart (most_rows K chart 31)) chart ≡ true) ⊎ (most_rows K chart 31 ≡ 1)
         → FitsOnSlide (slide_of (on_slide K chart) chart) ⊎ (on_slide K chart ≡ within_rows K chart 1)
     by_test true e has =
-        let is : on_slide K chart ≡ K = rw e refl in
-        subst (λ (k : Keeping). FitsOnSlide (slide_of k chart) ⊎ (k ≡ within_rows K chart 1)) (sym is) (inl (room-is (slide_of K chart) e))
+        subst (λ (k : Keeping). FitsOnSlide (slide_of k chart) ⊎ (k ≡ within_rows K chart 1)) (sym (whole-slide e)) (inl (room-is (slide_of K chart) e))
     by_test false e has =
-        let is : on_slide K chart ≡ within_rows K chart (most_rows K chart 31) = rw e refl in
-        subst (λ (k : Keeping). FitsOnSlide (slide_of k chart) ⊎ (k ≡ within_rows K chart 1)) (sym is) (by_count (most_rows K chart 31) has)
+        subst (λ (k : Keeping). FitsOnSlide (slide_of k chart) ⊎ (k ≡ within_rows K chart 1)) (sym (part-slide e)) (by_count (most_rows K chart 31) has)
 
   pub no-room : (count : ℕ) → most_rows K chart 31 < count → count ≤ 31 → FitsOnSlide (slide_of (within_rows K chart count) chart) → ⊥
   no-room count more most room =

@@ -1,5 +1,5 @@
 //! Which words and actors a list of names chooses, and what the title says of the events that are left out.
-ghost use Rattle.std.specs.Prelude.{◌≡◌, ◌≤◌, ◌++◌, length, map, IfOk, OnOk};
+ghost use Rattle.std.specs.Prelude.{◌≡◌, ◌≤◌, ◌++◌, [], length, map, IfOk, OnOk};
 ghost use Rattle.std.specs.List.{range_with_len};
 ghost use Rattle.text_pieces.specs.Pieces.{hexadecimal, space};
 ghost use Rattle.text_places.specs.Texts.{word_text};

@@ -172,17 +172,30 @@ fn most_rows(
     Ok(1)
 }
 
+/// What is kept in the window of the most of these rows that have room.
+fn most_on_slide(
+    alloc: Global,
+    chart: &Chart,
+    keeping: &Keeping,
+    rows: &[ChartRow],
+) -> Result<Keeping, Memory>
+    requires { rows.now ≡ from_first (kept_rows keeping.now chart.now) }
+    ensures { IfOk result (λ kept. kept ≡ within_rows keeping.now chart.now (most_rows keeping.now chart.now 31)) }
+{
+    let count = most_rows(alloc, chart, keeping, rows)?;
+    within_rows(alloc, chart, keeping, rows, count)
+}
+
 /// What is kept of a chart on a slide.
 fn on_slide(alloc: Global, chart: &Chart, keeping: &Keeping) -> Result<Keeping, Memory>
     ensures { IfOk result (λ kept. kept ≡ on_slide keeping.now chart.now) }
 {
-    if slide_fits(alloc, chart, keeping)? {
+    let fit = slide_fits(alloc, chart, keeping)?;
+    if fit {
         return with_window(alloc, keeping, keeping.window);
     }
-    let (kept, _) = keeping.rows(alloc, chart.shape, chart.rows.as_slice())?;
-    let rows = from_first(kept.as_slice());
-    let count = most_rows(alloc, chart, keeping, rows)?;
-    within_rows(alloc, chart, keeping, rows, count)
+    let (kept, _line) = keeping.rows(alloc, chart.shape, chart.rows.as_slice())?;
+    most_on_slide(alloc, chart, keeping, from_first(kept.as_slice()))
 }
 
 /// What is kept of a chart on a picture of a size.
