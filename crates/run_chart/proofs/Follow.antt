@@ -92,8 +92,9 @@ span-is low high (x ∷ xs) zero n rise =
     (first-of-span x x high (x ∷ xs) n (omega arith, rise.1, rise.2) (omega arith))
 span-is low high (x ∷ xs) (suc s) n rise =
     let later : x + 1 ≤ number_at high xs s = at-least (x + 1) high xs s rise.2 in
-    let next : suc s + n ≡ suc (s + n) = omega arith in
-    rw (next, below-span (number_at high xs s) (number_at high xs (s + n)) x (omega (arith, later))) (span-is (x + 1) high xs s n rise.2)
+    let next : suc (s + n) ≡ suc s + n = omega arith in
+    subst (λ (k : ℕ). filter (in_span (number_at high xs s) (number_at high (x ∷ xs) k)) (x ∷ xs) ≡ take n (drop s xs)) next
+    (rw (below-span (number_at high xs s) (number_at high xs (s + n)) x (omega (arith, later))) (span-is (x + 1) high xs s n rise.2))
 
 -- ---- the events of rows
 
