@@ -36,7 +36,9 @@ def leaves_out(denovo, view):
             ("stale-copy", ["--plain=on", "--fit=rows"]), ("many-readers", ["--actors=core1,core3", "--columns=used", "--fit=slide"]),
             ("constants", ["--plain=lines", "--actors=core0", "--fit=slide"]), ("crossed-locks", ["--actors=core1"]),
             ("crossed-locks", ["--words=nowhere[0]", "--columns=used"]), ("store-five", ["--words=nowhere[0]"]),
-            ("store-five", ["--actors=,core,core00", "--first=3"]), ("eviction-race", ["--rows=30", "--plain=off", "--actors=bank0"])):
+            ("store-five", ["--actors=,core,core00", "--first=3"]), ("eviction-race", ["--rows=30", "--plain=off", "--actors=bank0"]),
+            ("signature", ["--fit=slide"]), ("locked-counter", ["--fit=slide", "--first=40"]), ("stencil", ["--fit=slide", "--first=2400"]),
+            ("many-readers", ["--fit=slide", "--plain=off", "--first=40"]), ("read-sharing", ["--fit=slide", "--words=nowhere[0]", "--rows=4096"])):
         document = run(denovo + ["--mode", "trace", "--seed", "1"], text_of(example)).stdout
         o = dict(word[2:].split("=") for word in words)
         wanted = reference.Chart(document, int(o.get("first", 0)), int(o.get("rows", 1000)), used=o.get("columns") == "used", plain=o.get("plain", "on"),
@@ -44,6 +46,8 @@ def leaves_out(denovo, view):
         ran = run(view + words, document)
         check(f"{view[0]}: {example} {' '.join(words)}", (ran.returncode, ran.stdout) == (0, wanted))
         check(f"{example} {' '.join(words)}: what is left out is said", (b"; kept " in wanted) == (words != ["--plain=on", "--fit=rows"]))
+        width, height = map(int, wanted.split(b"viewBox='0 0 ")[1].split(b"'")[0].split())
+        check(f"{example} {' '.join(words)}: nothing on a slide is made smaller", "--fit=slide" not in words or (width <= 1280 and height <= 720))
     document = run(denovo + ["--mode", "trace", "--fuel", "1"], text_of("constants")).stdout
     ran, wanted = run(view + ["--plain", "lines"], document), reference.Chart(document, plain="lines").text().encode()
     check(f"{view[0]}: a task that ends at the second word of its line has a row there", ran.stdout == wanted and wanted.count(b"ends: fuel") == 4)

@@ -32,14 +32,15 @@ ABOUT_WORD = ("read-req", "read-fwd", "data-reply", "reg-req", "reg-fwd", "reg-a
 ABOUT_LOCK = ("acquire", "release", "grant")
 
 
-# how large a slide is shown
+# how large a slide is shown, and for how many lines, and cores and banks, it has room
 SLIDE = (1280, 720)
+SLIDE_LINES, SLIDE_COLUMNS = 31, 5
 
 
 class Chart:
     """The message chart of a range of a document's events, as an SVG text. Events may be left out: plain instructions (all, or those that don't
     begin their line), those that have nothing to do with these words, and those of other actors; words and actors are lists of names with
-    commas between them."""
+    commas between them. A slide shows as many of the others as have room, from the first one on that is no plain instruction."""
 
     def __init__(self, data, first=0, most=1000, ticks=(1, 10, 5), used=False, plain="on", words="", actors="", slide=False,
                  latency=0, net="uniform"):
@@ -62,9 +63,8 @@ class Chart:
         self.slide, self.counted, self.note = slide, len(self.rows), ""
         self.leave_out(plain, words.split(",") if words else None, actors.split(",") if actors else None)
         self.cores, self.banks = list(range(self.machine.cores)), list(range(self.machine.banks))
-        if used:
-            busy = {row["actor"] for row in self.rows} | {row["from"][0] for row in self.rows if row["from"]}
-            busy |= {mail[2] for mail, _ in self.leaving} | {("core", core) for core, _ in self.waits}
+        if used or slide:
+            busy = self.busy(self.rows, self.leaving, self.waits)
             self.cores = [core for core in self.cores if ("core", core) in busy]
             self.banks = [bank for bank in self.banks if ("bank", bank) in busy]
 
@@ -74,27 +74,62 @@ class Chart:
                                              if {self.word(word), "0x%08x" % (0x10000000 + 4 * word)} & set(words)]
         everybody = [("core", core) for core in range(self.machine.cores)] + [("bank", bank) for bank in range(self.machine.banks)] + ["keeper"]
         chosen = None if actors is None else [actor for actor in everybody if self.actor(actor).replace(" ", "") in actors]
-        rows, places, line = [], {}, 0
+        kept = []
         for row in self.rows:
             of_word = words is None or row["ends_phase"] or set(wanted) & (row["words"] | {change[0] for change in row["changes"]})
             shown = not row["plain"] or plain == "on" or plain == "lines" and not row["later"]
             if shown and of_word and (chosen is None or row["actor"] in chosen):
                 if wanted is not None:
                     row["changes"] = [change for change in row["changes"] if change[0] in wanted]
-                places[row["line"]], row["line"] = line, line
-                line += self.height(row)
-                rows.append(row)
+                kept.append(row)
+        self.waits = [(core, lock) for core, lock in self.waits if chosen is None or ("core", core) in chosen]
+        window = self.window(kept) if self.slide else None
+        rows, self.leaving, self.waits = self.inside(kept, window)
+        places, line = {}, 0
+        for row in rows:
+            places[row["line"]], row["line"] = line, line
+            line += self.height(row)
         for row in rows:
             if row["from"]:
                 row["from"] = (row["from"][0], places.get(row["from"][1]))
         self.rows, self.line = rows, line
-        self.leaving = [(mail, places[sent]) for mail, sent in self.leaving if sent in places]
-        self.waits = [(core, lock) for core, lock in self.waits if chosen is None or ("core", core) in chosen]
+        self.leaving = [(mail, places[sent]) for mail, sent in self.leaving]
         parts = {"on": [], "lines": [" with la and li as one row"], "off": [" without plain instructions"]}[plain]
         parts += [] if words is None else [" words" + ",".join(" " + self.word(word) for word in wanted)]
         parts += [] if actors is None else [" actors" + ",".join(" " + self.actor(actor) for actor in chosen)]
+        if window:
+            parts.append(" events %d to %d, %d left out" % (window[0], max(window[1] - 1, 0), self.counted - len(rows)))
         if parts:
             self.note = "; kept %d of %d events:%s" % (len(rows), self.counted, ";".join(parts))
+
+    @staticmethod
+    def busy(rows, leaving, waits):
+        """Who has something to do in these rows, mails that leave and tasks that wait."""
+        return ({row["actor"] for row in rows} | {row["from"][0] for row in rows if row["from"]} |
+                {mail[2] for mail, _ in leaving} | {("core", core) for core, _ in waits})
+
+    def inside(self, kept, window):
+        """What a window has of the rows that are kept: its rows, the mails that leave it and the tasks that wait when the run ends. Lines are those
+        of the whole chart."""
+        first, behind = window or (0, self.total)
+        rows = [row for row in kept if first <= row["event"] < behind]
+        lines = {row["line"] for row in rows}
+        leaving = [(row["mail"], row["from"][1]) for row in self.rows if row["event"] >= behind and row["from"] and row["from"][1] in lines]
+        leaving += [(mail, sent) for mail, sent in self.leaving if sent in lines]
+        return rows, leaving, self.waits if behind >= self.total else []
+
+    def window(self, kept):
+        """The events of a slide, from one up to another that is no longer on it; None if all that are kept have room."""
+        def fits(window):
+            rows, leaving, waits = self.inside(kept, window)
+            return (sum(map(self.height, rows)) + len(leaving) + len(waits) <= SLIDE_LINES and
+                    len(self.busy(rows, leaving, waits) - {"keeper"}) <= SLIDE_COLUMNS)
+        if fits(None):
+            return None
+        begin = next((at for at, row in enumerate(kept) if not row["plain"]), 0)
+        events = [row["event"] for row in kept[begin:]] + [self.total] * (SLIDE_LINES + 1)
+        windows = [(events[0], events[count]) for count in range(SLIDE_LINES, 0, -1)]
+        return next((window for window in windows if fits(window)), windows[-1])
 
     def longest(self, sizes, ticks, latency, net):
         """The numbers of the events of the longest chain, where a core's own event, one of a bank and another take so many ticks, and a
@@ -122,10 +157,10 @@ class Chart:
     def add(self, number, event):
         machine = self.machine
         row = {"event": number, "line": self.line, "from": None, "about": "", "end": None, "phase": machine.keeper.phase, "plain": False, "later": False,
-               "words": set()}
+               "words": set(), "mail": None}
         if event[0] == "handle":
             mail = next(mail for mail in machine.pool if mail[:2] == event[1:])
-            row.update({"actor": mail[2], "kind": mail[3][0], "from": (mail[0], self.sent.pop(mail[:2], None)), "about": self.about(mail[3])})
+            row.update({"mail": mail, "actor": mail[2], "kind": mail[3][0], "from": (mail[0], self.sent.pop(mail[:2], None)), "about": self.about(mail[3])})
             if mail[3][0] in ABOUT_WORD:
                 row["words"] = {mail[3][1]}
         else:
@@ -221,7 +256,10 @@ class Chart:
         for row in self.rows:
             if row["from"]:
                 sender, line = row["from"]
-                out.append(self.arrow(line is None, self.x(sender), 104 if line is None else self.y(line), self.x(row["actor"]), self.y(row["line"])))
+                x, y = self.x(sender), self.y(row["line"]) - 9 if line is None else self.y(line)
+                if line is None:
+                    out.append("<path class='denovo-mail' d='M%d %dL%d %d'/>\n" % (x - 6, y, x + 6, y))
+                out.append(self.arrow(line is None, x, y, self.x(row["actor"]), self.y(row["line"])))
         for at, (mail, line) in enumerate(self.leaving):
             out.append(self.arrow(True, self.x(mail[0]), self.y(line), self.x(mail[2]), self.y(self.line + at)))
         for row in self.rows:

@@ -1,5 +1,5 @@
 -- The columns of what a chart keeps: an actor that has one in the whole chart has one here, where it has something to do here.
-use Rattle.std.proofs.Common.{◌≡◌, ℕ, zero, suc, ◌+◌, ◌||◌, Bool, true, false, List, [], ◌∷◌, length, slice_get, Option, Some, None, if◌then◌else◌, refl, sym, ap, subst, ◌∙◌, arith}
+use Rattle.std.proofs.Common.{◌≡◌, ◌⊎◌, inl, inr, ℕ, zero, suc, ◌+◌, ◌||◌, Bool, true, false, List, [], ◌∷◌, ◌++◌, length, slice_get, Option, Some, None, if◌then◌else◌, refl, sym, ap, subst, ◌∙◌, arith}
 use Rattle.std.proofs.lemmas.Option.{none-some, same_Some}
 use Rattle.dn_base.specs.declared.ids.CoreId.{CoreId}
 use Rattle.message_net.specs.declared.actor.Actor.{Actor}
@@ -17,11 +17,12 @@ use Rattle.run_chart.specs.declared.parts.Fit.{Fit}
 use Rattle.run_chart.specs.declared.parts.LeavingMail.{LeavingMail}
 use Rattle.run_chart.specs.declared.parts.Origin.{Origin}
 use Rattle.run_chart.specs.declared.parts.WaitingTask.{WaitingTask}
-use Rattle.run_chart.specs.Arrows.{LeavesFromSender, LeavesRange}
+use Rattle.run_chart.specs.Arrows.{line_of_event}
+use Rattle.run_chart.specs.Windows.{LeavesWindow}
 use Rattle.run_chart.specs.Finishing.{has_column, uses}
-use Rattle.run_chart.specs.Keeping.{is_of_actors, kept_chart, kept_rows, left_from, line_after, moved_origin, tasks_from, with_origin}
+use Rattle.run_chart.specs.Keeping.{ends_early, is_of_actors, kept_chart, kept_rows, left_below, line_after, mails_behind, moved_origin, tasks_from, waits_below, with_origin}
 use Rattle.run_chart.specs.Places.{HasColumn}
-use Rattle.run_chart.proofs.KeptArrows.{still-left, IsStillLeft}
+use Rattle.run_chart.proofs.KeptArrows.{append-there, behind-there, still-left, ComesBehind, IsStillLeft}
 use Rattle.run_chart.proofs.KeptRows.{kept-from, map-there, IsKeptFrom}
 use Rattle.run_chart.proofs.Shown.{bank-at, core-at, row-of-line, shown-is, used-by-mail, used-by-row, used-by-task}
 
@@ -47,6 +48,15 @@ still-waits marks line (t ∷ ts) i task here = by_test (is_of_actors marks t.co
   by_test true e rest zero here = (0, t, refl, ap (λ (x : WaitingTask). x.core) (same_Some (record t { line = line }) task (subst (λ (b : Bool). slice_get (step b) 0 ≡ Some task) e here)))
   by_test true e rest (suc i) here = later (rest (line + 1) i (subst (λ (b : Bool). slice_get (step b) (suc i) ≡ Some task) e here))
   by_test false e rest i here = later (rest line i (subst (λ (b : Bool). slice_get (step b) i ≡ Some task) e here))
+
+-- none waits where the window ends before the run
+waits-there : (K : Keeping) (chart : Chart) (line i : ℕ) (task : WaitingTask) → slice_get (waits_below K chart line) i ≡ Some task
+    → (j : ℕ) × (t : WaitingTask) × (slice_get chart.waiting j ≡ Some t) × (t.core ≡ task.core)
+waits-there K chart line i task here = by_test (ends_early K.window chart.events) here where
+  by_test : (b : Bool) → slice_get (if b then [] else tasks_from K.actors line chart.waiting) i ≡ Some task
+      → (j : ℕ) × (t : WaitingTask) × (slice_get chart.waiting j ≡ Some t) × (t.core ≡ task.core)
+  by_test true here = absurd (none-some task here)
+  by_test false here = still-waits K.actors line chart.waiting i task here
 
 module _ (K : Keeping) (shown : Columns) (fit : Fit) (note : List ℕ) (chart : Chart) where
   abbrev kept : Chart
@@ -116,7 +126,7 @@ module _ (K : Keeping) (shown : Columns) (fit : Fit) (note : List ℕ) (chart : 
   pub kept-waiting-shown : ((j : ℕ) (task : WaitingTask) → slice_get chart.waiting j ≡ Some task → HasColumn chart (Core task.core)) → (i : ℕ) (task : WaitingTask) → slice_get kept.waiting i ≡ Some task
       → HasColumn kept (Core task.core)
   kept-waiting-shown task-shown i task here =
-      let t = still-waits K.actors (line_after K chart.shape 0 chart.rows + length (left_from chart.rows bare (line_after K chart.shape 0 chart.rows) chart.leaving)) chart.waiting i task here in
+      let t = waits-there K chart (line_after K chart.shape 0 chart.rows + length (left_below K chart bare (line_after K chart.shape 0 chart.rows))) i task here in
       stays-shown (Core task.core) (subst (λ (c : CoreId). HasColumn chart (Core c)) t.3 (task-shown t.0 t.1 t.2))
       (used-by-task shown kept.rows kept.leaving kept.waiting (Core task.core) i task here (same_actor-refl (Core task.core)))
 
@@ -124,27 +134,38 @@ module _ (K : Keeping) (shown : Columns) (fit : Fit) (note : List ℕ) (chart : 
     -- the arrow of a mail that leaves begins at a row that is kept, which is its sender's
     pub kept-leaving-shown : ((j : ℕ) (row : ChartRow) → slice_get chart.rows j ≡ Some row → actor_at S events row.event ≡ Some row.actor)
         → ((j : ℕ) (mail : LeavingMail) → slice_get chart.leaving j ≡ Some mail → HasColumn chart mail.to) → (i : ℕ) (mail : LeavingMail) → slice_get kept.leaving i ≡ Some mail
-        → LeavesFromSender S events kept.rows end mail → HasColumn kept mail.sender × HasColumn kept mail.to
+        → LeavesWindow S events kept.rows end K.window mail → HasColumn kept mail.sender × HasColumn kept mail.to
     kept-leaving-shown acts to-shown i mail here leaves = (
       subst (λ (a : Actor). HasColumn kept a) sender (kept-row-shown row-shown row.0 row.1 row.2),
-      stays-shown mail.to (subst (λ (a : Actor). HasColumn chart a) still.to (to-shown still.place still.mail still.there))
+      stays-shown mail.to (handler-shown still (append-there (mails_behind K.window chart.rows) chart.leaving still.place still.mail still.there))
           (used-by-mail shown kept.rows kept.leaving kept.waiting mail.to i mail here (same_actor-refl mail.to)),
     )
       where
-        from : LeavesRange S events kept.rows end leaves.0 leaves.1 mail
-        from = leaves.2
+        sent-by : LeavesWindow S events kept.rows end K.window mail → (event : ℕ) × (actor_at S events event ≡ Some mail.sender) × (line_of_event event kept.rows ≡ Some mail.sent)
+        sent-by (inl (event, id, left)) = (event, left.actor, left.line)
+        sent-by (inr handled) = (handled.event, handled.actor, handled.line)
 
-        row : (j : ℕ) × (r : ChartRow) × (slice_get kept.rows j ≡ Some r) × (r.event ≡ leaves.0)
-        row = row-of-line leaves.0 mail.sent kept.rows from.line
+        from : (event : ℕ) × (actor_at S events event ≡ Some mail.sender) × (line_of_event event kept.rows ≡ Some mail.sent)
+        from = sent-by leaves
+
+        row : (j : ℕ) × (r : ChartRow) × (slice_get kept.rows j ≡ Some r) × (r.event ≡ from.0)
+        row = row-of-line from.0 mail.sent kept.rows from.2
 
         r : (j : ℕ) × (r : ChartRow) × (slice_get chart.rows j ≡ Some r) × (r.event ≡ row.1.event) × (r.actor ≡ row.1.actor) × (moved_origin chart.rows bare r.mail ≡ row.1.mail)
         r = was row.0 row.1 row.2
 
-        acted : actor_at S events leaves.0 ≡ Some row.1.actor
+        acted : actor_at S events from.0 ≡ Some row.1.actor
         acted = ap (actor_at S events) (sym (r.3 ∙ row.3)) ∙ acts r.0 r.1 r.2 ∙ ap (λ (a : Actor). Some a) r.4
 
         sender : row.1.actor ≡ mail.sender
-        sender = same_Some row.1.actor mail.sender (sym acted ∙ from.actor)
+        sender = same_Some row.1.actor mail.sender (sym acted ∙ from.1)
 
-        still : IsStillLeft chart.rows bare chart.leaving mail
-        still = still-left chart.rows bare (line_after K chart.shape 0 chart.rows) chart.leaving i mail here
+        still : IsStillLeft chart.rows bare (mails_behind K.window chart.rows ++ chart.leaving) mail
+        still = still-left chart.rows bare (line_after K chart.shape 0 chart.rows) (mails_behind K.window chart.rows ++ chart.leaving) i mail here
+
+        handler-shown : (s : IsStillLeft chart.rows bare (mails_behind K.window chart.rows ++ chart.leaving) mail)
+            → ((j : ℕ) × (slice_get (mails_behind K.window chart.rows) j ≡ Some s.mail)) ⊎ ((j : ℕ) × (slice_get chart.leaving j ≡ Some s.mail)) → HasColumn chart mail.to
+        handler-shown s (inl (j, at)) =
+            let comes : ComesBehind K.window chart.rows s.mail = behind-there K.window chart.rows j s.mail at in
+            subst (λ (a : Actor). HasColumn chart a) (comes.to ∙ s.to) (row-shown comes.place comes.row comes.here)
+        handler-shown s (inr (j, at)) = subst (λ (a : Actor). HasColumn chart a) s.to (to-shown j s.mail at)

@@ -7,7 +7,7 @@ use Rattle.dn_base.specs.declared.ids.Shape.{Shape}
 use Rattle.run_chart.specs.declared.parts.ChartRow.{ChartRow}
 use Rattle.run_chart.specs.declared.keeping.Keeping.{Keeping}
 use Rattle.run_chart.specs.Arrows.{line_of_event}
-use Rattle.run_chart.specs.Keeping.{event_on_line, is_kept, kept_lines, moved_from, row_from, rows_from, with_origin, with_origins}
+use Rattle.run_chart.specs.Keeping.{event_on_line, is_kept, kept_lines, line_after, moved_from, row_from, rows_from, with_origin, with_origins}
 
 -- ---- their events
 
@@ -58,6 +58,31 @@ module _ (K : Keeping) (shape : Shape) where
           below i j a b (omega (arith, less)) (subst (λ (t : Bool). slice_get (step t) (suc i) ≡ Some a) e here) (subst (λ (t : Bool). slice_get (step t) (suc j) ≡ Some b) e there)
       by_test false e below same i j less here there =
           same i j a b less (subst (λ (t : Bool). slice_get (step t) i ≡ Some a) e here) (subst (λ (t : Bool). slice_get (step t) j ≡ Some b) e there)
+
+  -- they end above the line after them
+  pub after-above : (line : ℕ) (rows : List ChartRow) → line ≤ line_after K shape line rows
+  after-above line [] = omega arith
+  after-above line (row ∷ rows) = by_test (is_kept K shape row) refl (after-above (line + kept_lines K.words row) rows) (after-above line rows) where
+    by_test : (t : Bool) → is_kept K shape row ≡ t → line + kept_lines K.words row ≤ line_after K shape (line + kept_lines K.words row) rows → line ≤ line_after K shape line rows
+        → line ≤ line_after K shape line (row ∷ rows)
+    by_test true e below same = rw e (omega (arith, below))
+    by_test false e below same = rw e same
+
+  pub kept-ends : (line : ℕ) (rows : List ChartRow) (i : ℕ) (a : ChartRow) → slice_get (rows_from K shape line rows) i ≡ Some a → a.line + a.lines ≤ line_after K shape line rows
+  kept-ends line [] i a here = absurd (none-some a here)
+  kept-ends line (row ∷ rows) i a here = by_test (is_kept K shape row) refl (kept-ends (line + kept_lines K.words row) rows) (kept-ends line rows) i here where
+    step : Bool → List ChartRow
+    step t = if t then row_from K.words line row ∷ rows_from K shape (line + kept_lines K.words row) rows else rows_from K shape line rows
+
+    by_test : (t : Bool) → is_kept K shape row ≡ t
+        → ((i : ℕ) (a : ChartRow) → slice_get (rows_from K shape (line + kept_lines K.words row) rows) i ≡ Some a → a.line + a.lines ≤ line_after K shape (line + kept_lines K.words row) rows)
+        → ((i : ℕ) (a : ChartRow) → slice_get (rows_from K shape line rows) i ≡ Some a → a.line + a.lines ≤ line_after K shape line rows)
+        → (i : ℕ) → slice_get (rows_from K shape line (row ∷ rows)) i ≡ Some a → a.line + a.lines ≤ line_after K shape line (row ∷ rows)
+    by_test true e below same zero here =
+        let first : row_from K.words line row ≡ a = same_Some (row_from K.words line row) a (subst (λ (t : Bool). slice_get (step t) 0 ≡ Some a) e here) in
+        rw e (subst (λ (x : ChartRow). x.line + x.lines ≤ line_after K shape (line + kept_lines K.words row) rows) first (after-above (line + kept_lines K.words row) rows))
+    by_test true e below same (suc i) here = rw e (below i a (subst (λ (t : Bool). slice_get (step t) (suc i) ≡ Some a) e here))
+    by_test false e below same i here = rw e (same i a (subst (λ (t : Bool). slice_get (step t) i ≡ Some a) e here))
 
   -- ---- where they come from
 
@@ -167,7 +192,7 @@ drawn-apart K shape whole i j a b less here there =
     subst (λ (x : ChartRow). x.line + x.lines ≤ b.line) first.2
     (subst (λ (x : ChartRow). first.0.line + first.0.lines ≤ x.line) second.2 (kept-apart K shape 0 whole i j first.0 second.0 less first.1 second.1))
 
--- an arrow that began on the line of an event's row begins on the line that this row has now, or above all rows
+-- an arrow that began on the line of an event's row begins on the line that this row has now, or at no row
 pub arrow-moves : (K : Keeping) (shape : Shape) (event : ℕ) (whole : List ChartRow) → AreBelow whole
     → moved_from whole (rows_from K shape 0 whole) (line_of_event event whole) ≡ line_of_event event (with_origins whole (rows_from K shape 0 whole))
 arrow-moves K shape event whole apart = by_line (line_of_event event whole) refl ∙ sym (lines-stay whole (rows_from K shape 0 whole) (rows_from K shape 0 whole) event) where

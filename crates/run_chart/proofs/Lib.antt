@@ -6,7 +6,9 @@ pub mod Chosen
 pub mod ColumnsApart
 pub mod Counted
 pub mod Each
+pub mod Fitting
 pub mod Flown
+pub mod Follow
 pub mod Gathered
 pub mod Items
 pub mod Kept
@@ -21,3 +23,4 @@ pub mod Others
 pub mod RangeRows
 pub mod Senders
 pub mod Shown
+pub mod SlideSize

@@ -19,7 +19,7 @@ line_of_event event [] = None
 line_of_event event (row ∷ rows) = if row.event == event then Some row.line else line_of_event event rows
 
 -- the mail that a row's event handles was sent by one event: its arrow begins in the column of that event's actor, on the line of that
--- event's row, or above all rows where that event has none
+-- event's row, or at no row where that event has none
 pub record ComesFromSender (S : State) (events : List Event) (rows : List ChartRow) (row : ChartRow) (mail : Origin) : Type 0 where
   pub event : ℕ
   pub sends : IsSender S events event row.event

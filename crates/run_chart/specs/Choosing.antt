@@ -1,5 +1,5 @@
 -- Which words and actors a list of names chooses, and what the title says of the events that are left out.
-use Rattle.std.specs.Prelude.{ℕ, ◌+◌, ◌*◌, ◌==◌, ◌||◌, ◌&&◌, Bool, true, false, not, List, [], ◌∷◌, ◌++◌, codes, length, map, if◌then◌else◌}
+use Rattle.std.specs.Prelude.{ℕ, ◌+◌, ◌-◌, ◌*◌, ◌==◌, ◌||◌, ◌&&◌, Bool, true, false, not, List, [], ◌∷◌, ◌++◌, codes, length, map, Option, Some, None, if◌then◌else◌}
 use Rattle.std.specs.List.{range_with_len}
 use Rattle.std.specs.Fmt.{decimal}
 use Rattle.text_pieces.specs.Pieces.{space, hexadecimal}
@@ -12,6 +12,7 @@ use Rattle.text_places.specs.Texts.{word_text}
 use Rattle.run_chart.specs.declared.keeping.Keeping.{Keeping}
 use Rattle.run_chart.specs.declared.keeping.PlainRows.{PlainRows}
 use Rattle.run_chart.specs.declared.keeping.PlainRows.TheVariants.{All, Lines, Hidden}
+use Rattle.run_chart.specs.declared.keeping.Window.{Window}
 use Rattle.run_chart.specs.declared.parts.Chart.{Chart}
 use Rattle.run_chart.specs.declared.parts.ChartRow.{ChartRow}
 use Rattle.run_chart.specs.Keeping.{kept_rows}
@@ -72,7 +73,13 @@ is_later_word place = not (place.part == 0)
 -- what is kept where these words and actors are listed
 abbrev pub keeping_of : PlainRows → List ℕ → List ℕ → Located → Shape → Keeping
 keeping_of plain words actors L shape =
-    record { plain = plain; later_words = map is_later_word L.places.code; words = marked_words words L; actors = marked_actors actors shape }
+    record {
+      plain = plain;
+      later_words = map is_later_word L.places.code;
+      words = marked_words words L;
+      actors = marked_actors actors shape;
+      window = None;
+    }
 
 -- ---- the note
 
@@ -115,18 +122,39 @@ abbrev pub has_no_mark : List Bool → Bool
 has_no_mark [] = true
 has_no_mark (m ∷ ms) = false
 
+-- the events of a slide, and how many of the range are left out in all
+unfoldable pub window_note : Window → ℕ → List ℕ
+window_note window left =
+    codes " events " ++ decimal window.first ++ codes " to " ++ decimal (window.behind - 1) ++ codes ", " ++ decimal left ++ codes " left out"
+
+abbrev pub part_by_window : Bool → ℕ → Option Window → List ℕ
+part_by_window first left None = []
+part_by_window first left (Some window) = between first ++ window_note window left
+
+abbrev pub has_no_window : Option Window → Bool
+has_no_window None = true
+has_no_window (Some window) = false
+
+-- whether nothing but a window leaves events out
+abbrev pub names_nothing : Keeping → Bool
+names_nothing K = is_all K.plain && has_no_mark K.words && has_no_mark K.actors
+
 -- how many events are kept of how many that the range has
 unfoldable pub count_note : ℕ → ℕ → List ℕ
 count_note kept whole = codes "; kept " ++ decimal kept ++ codes " of " ++ decimal whole ++ codes " events:"
 
-unfoldable pub reasons : Keeping → Located → Shape → List ℕ
-reasons K L shape =
+unfoldable pub reasons : Keeping → Located → Shape → ℕ → List ℕ
+reasons K L shape left =
     part_by_plain K.plain ++ part_by_words (is_all K.plain) L K.words ++ part_by_actors (is_all K.plain && has_no_mark K.words) shape K.actors
+    ++ part_by_window (names_nothing K) left K.window
 
--- what follows the title where these rows are kept: nothing where nothing is asked to be left out
+-- what follows the title where so many events are kept of so many: nothing where nothing is asked to be left out
+abbrev pub note_for : Keeping → Located → Shape → ℕ → ℕ → List ℕ
+note_for K L shape kept whole =
+    if names_nothing K && has_no_window K.window then [] else count_note kept whole ++ reasons K L shape (whole - kept)
+
 abbrev pub note_by : Keeping → Located → Chart → List ChartRow → List ℕ
-note_by K L chart rows =
-    if is_all K.plain && has_no_mark K.words && has_no_mark K.actors then [] else count_note (length rows) (length chart.rows) ++ reasons K L chart.shape
+note_by K L chart rows = note_for K L chart.shape (length rows) (length chart.rows)
 
 abbrev pub note_of : Keeping → Located → Chart → List ℕ
 note_of K L chart = note_by K L chart (kept_rows K chart)

@@ -1,7 +1,8 @@
--- What a chart keeps of the events of its range: which rows, and where their arrows begin then.
-use Rattle.std.specs.Prelude.{ℕ, ◌+◌, ◌==◌, ◌||◌, ◌&&◌, Bool, true, false, not, List, [], ◌∷◌, length, map, filter, Option, Some, None, if◌then◌else◌}
+-- What a chart keeps of the events of its range: which rows, and where their arrows begin and end then.
+use Rattle.std.specs.Prelude.{ℕ, ◌+◌, ◌==◌, ◌||◌, ◌&&◌, Bool, true, false, not, nat_le, nat_lt, List, [], ◌∷◌, ◌++◌, length, map, filter, Option, Some, None, if◌then◌else◌}
 use Rattle.std.specs.List.{list_any}
 use Rattle.dn_base.specs.declared.ids.Shape.{Shape}
+use Rattle.message_net.specs.declared.actor.Actor.{Actor}
 use Rattle.message_net.specs.Mail.{actor_index}
 use Rattle.rv_core.specs.declared.need.Need.{Need}
 use Rattle.rv_core.specs.declared.need.Need.TheVariants.{Local, Load, Store}
@@ -18,6 +19,7 @@ use Rattle.run_chart.specs.declared.finishing.Columns.{Columns}
 use Rattle.run_chart.specs.declared.keeping.Keeping.{Keeping}
 use Rattle.run_chart.specs.declared.keeping.PlainRows.{PlainRows}
 use Rattle.run_chart.specs.declared.keeping.PlainRows.TheVariants.{All, Lines, Hidden}
+use Rattle.run_chart.specs.declared.keeping.Window.{Window}
 use Rattle.run_chart.specs.Arrows.{line_of_event}
 use Rattle.run_chart.specs.Drawing.{row_lines}
 use Rattle.run_chart.specs.Finishing.{shown_actors}
@@ -70,9 +72,18 @@ abbrev pub is_of_actors : List Bool → ℕ → Bool
 is_of_actors [] index = true
 is_of_actors (m ∷ ms) index = is_shown (m ∷ ms) index
 
-abbrev pub is_kept : Keeping → Shape → ChartRow → Bool
-is_kept K shape row =
+-- an event is asked for as a plain instruction, if it is one, for its words, and for its actor
+abbrev pub is_asked_for : Keeping → Shape → ChartRow → Bool
+is_asked_for K shape row =
     (not (is_plain row) || shows_plain K.plain K.later_words row.about) && is_of_words K.words row && is_of_actors K.actors (actor_index shape.cores shape.banks row.actor)
+
+-- where there is a window: its events; otherwise all
+abbrev pub is_in_window : Option Window → ℕ → Bool
+is_in_window None event = true
+is_in_window (Some window) event = nat_le window.first event && nat_lt event window.behind
+
+abbrev pub is_kept : Keeping → Shape → ChartRow → Bool
+is_kept K shape row = is_in_window K.window row.event && is_asked_for K shape row
 
 -- ---- their rows
 
@@ -125,7 +136,7 @@ abbrev pub moved_from : List ChartRow → List ChartRow → Option ℕ → Optio
 moved_from whole kept None = None
 moved_from whole kept (Some line) = moved_line whole kept line
 
--- an arrow begins on the line that its sender's row has now; where that event is left out, above all rows, as one from before the range
+-- an arrow begins on the line that its sender's row has now; where that event is left out, at no row, as one from before the range
 abbrev pub moved_origin : List ChartRow → List ChartRow → Option Origin → Option Origin
 moved_origin whole kept None = None
 moved_origin whole kept (Some mail) = Some (record { sender = mail.sender; line = moved_from whole kept mail.line })
@@ -145,11 +156,54 @@ abbrev pub left_from : List ChartRow → List ChartRow → ℕ → List LeavingM
 left_from whole kept line [] = []
 left_from whole kept line (mail ∷ mails) = left_by line (moved_line whole kept mail.sent) mail (λ next. left_from whole kept next mails)
 
+-- whether an event comes behind the window
+abbrev pub comes_behind : Option Window → ℕ → Bool
+comes_behind None event = false
+comes_behind (Some window) event = nat_le window.behind event
+
+-- the mail that a row's event handles, by its sender and the line on which it was sent
+abbrev pub mail_from : ChartRow → Actor → Option ℕ → Option LeavingMail
+mail_from row sender None = None
+mail_from row sender (Some sent) = Some (record { sender = sender; sent = sent; to = row.actor; kind = row.kind; about = row.about; line = 0 })
+
+abbrev pub handled_mail : ChartRow → Option Origin → Option LeavingMail
+handled_mail row None = None
+handled_mail row (Some mail) = mail_from row mail.sender mail.line
+
+-- the mails that events behind the window handle: they leave the window, as mails in flight behind the range leave it
+abbrev pub mail_behind : Option Window → ChartRow → Option LeavingMail
+mail_behind window row = if comes_behind window row.event then handled_mail row row.mail else None
+
+abbrev pub with_handled : Option LeavingMail → List LeavingMail → List LeavingMail
+with_handled None mails = mails
+with_handled (Some mail) mails = mail ∷ mails
+
+abbrev pub mails_behind : Option Window → List ChartRow → List LeavingMail
+mails_behind window [] = []
+mails_behind window (row ∷ rows) = with_handled (mail_behind window row) (mails_behind window rows)
+
 -- the tasks that wait for a lock, each on a line of its own; only those of marked cores where actors are marked
 abbrev pub tasks_from : List Bool → ℕ → List WaitingTask → List WaitingTask
 tasks_from marks line [] = []
 tasks_from marks line (task ∷ tasks) =
     if is_of_actors marks task.core.0 then record task { line = line } ∷ tasks_from marks (line + 1) tasks else tasks_from marks line tasks
+
+-- whether the window ends before the run does
+abbrev pub ends_early : Option Window → ℕ → Bool
+ends_early None events = false
+ends_early (Some window) events = nat_lt window.behind events
+
+-- ---- what stands below the rows
+
+-- from a line on, the mails that leave the window or the range, and below them the tasks that wait when the run ends
+abbrev pub left_below : Keeping → Chart → List ChartRow → ℕ → List LeavingMail
+left_below K chart kept line = left_from chart.rows kept line (mails_behind K.window chart.rows ++ chart.leaving)
+
+abbrev pub waits_below : Keeping → Chart → ℕ → List WaitingTask
+waits_below K chart line = if ends_early K.window chart.events then [] else tasks_from K.actors line chart.waiting
+
+abbrev pub tasks_below : Keeping → Chart → List ChartRow → ℕ → List WaitingTask
+tasks_below K chart kept line = waits_below K chart (line + length (left_below K chart kept line))
 
 -- ---- the chart
 
@@ -170,10 +224,9 @@ chart_with columns fit note chart rows leaving tasks line =
     }
 
 -- the chart of the rows that are kept, where the next line is this one: their mails and tasks stand below them
-abbrev pub chart_by : List Bool → Columns → Fit → List ℕ → Chart → List ChartRow → ℕ → Chart
-chart_by actors columns fit note chart kept line =
-    chart_with columns fit note chart (with_origins chart.rows kept) (left_from chart.rows kept line chart.leaving)
-    (tasks_from actors (line + length (left_from chart.rows kept line chart.leaving)) chart.waiting) line
+abbrev pub chart_by : Keeping → Columns → Fit → List ℕ → Chart → List ChartRow → ℕ → Chart
+chart_by K columns fit note chart kept line =
+    chart_with columns fit note chart (with_origins chart.rows kept) (left_below K chart kept line) (tasks_below K chart kept line) line
 
 abbrev pub kept_chart : Keeping → Columns → Fit → List ℕ → Chart → Chart
-kept_chart K columns fit note chart = chart_by K.actors columns fit note chart (kept_rows K chart) (line_after K chart.shape 0 chart.rows)
+kept_chart K columns fit note chart = chart_by K columns fit note chart (kept_rows K chart) (line_after K chart.shape 0 chart.rows)

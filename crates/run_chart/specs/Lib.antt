@@ -12,4 +12,6 @@ pub mod Mails
 pub mod Marks
 pub mod Picture
 pub mod Places
+pub mod Slides
+pub mod Windows
 pub mod Words

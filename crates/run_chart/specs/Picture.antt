@@ -157,10 +157,16 @@ chain_path chart = chain_begin ++ flat_map (point chart) chart.rows ++ codes "'/
 
 -- ---- the arrows
 
--- the height at which a mail is sent: above all rows if the event that sent it has none
-abbrev pub height_of : Option ℕ → ℕ
-height_of None = top
-height_of (Some line) = y_of line
+-- the height at which the arrow to a row on a line begins: that of its sender's row; where the sender's event has none, the upper edge of
+-- the row to which the arrow leads
+abbrev pub height_of : ℕ → Option ℕ → ℕ
+height_of line None = y_of line - 9
+height_of line (Some sent) = y_of sent
+
+-- an arrow whose sender has no row begins at a mark of its own, a short line across the sender's column
+abbrev pub edge_mark : ℕ → ℕ → Option ℕ → List ℕ
+edge_mark x y None = line_to (codes "mail") (x - 6) y (x + 6) y
+edge_mark x y (Some sent) = []
 
 -- a mail that was sent before the range, and one that isn't handled in it, have a broken line
 abbrev pub mail_class : Option ℕ → List ℕ
@@ -176,7 +182,8 @@ arrow_between class x1 y1 x2 y2 =
 abbrev pub arrow_from : Chart → ChartRow → Option Origin → List ℕ
 arrow_from chart row None = []
 arrow_from chart row (Some mail) =
-    arrow_between (mail_class mail.line) (column chart mail.sender) (height_of mail.line) (column chart row.actor) (y_of row.line)
+    edge_mark (column chart mail.sender) (height_of row.line mail.line) mail.line
+    ++ arrow_between (mail_class mail.line) (column chart mail.sender) (height_of row.line mail.line) (column chart row.actor) (y_of row.line)
 
 abbrev pub arrow : Chart → ChartRow → List ℕ
 arrow chart row = arrow_from chart row row.mail

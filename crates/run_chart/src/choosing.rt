@@ -1,13 +1,13 @@
 //! Which words and actors a list of names chooses, and what the title says of the events that are left out.
-ghost use Rattle.std.specs.Prelude.{◌≡◌, ◌≤◌, ◌++◌, ◌&&◌, [], if◌then◌else◌, length, map, IfOk, OnOk};
+ghost use Rattle.std.specs.Prelude.{◌≡◌, ◌≤◌, ◌++◌, [], length, map, IfOk, OnOk};
 ghost use Rattle.std.specs.List.{range_with_len};
 ghost use Rattle.text_pieces.specs.Pieces.{hexadecimal, space};
 ghost use Rattle.text_places.specs.Texts.{word_text};
-ghost use Rattle.run_chart.specs.Choosing.{begins, between, chooses_actor, chooses_word, count_note, follows, has_no_mark, is_all, is_later_word, is_listed, keeping_of, marked_actors, marked_words, names_from, part_by_actors, part_by_plain, part_by_words, plain_note, reasons, short_name};
+ghost use Rattle.run_chart.specs.Choosing.{begins, between, chooses_actor, chooses_word, count_note, follows, has_no_window, is_later_word, is_listed, keeping_of, marked_actors, marked_words, names_from, names_nothing, note_for, part_by_actors, part_by_plain, part_by_window, part_by_words, plain_note, reasons, short_name, window_note};
 ghost use Rattle.run_chart.specs.Labels.{actor_name};
 ghost use Rattle.run_chart.specs.Places.{actor_with};
 
-use crate::keeping::{Keeping, PlainRows};
+use crate::keeping::{Keeping, PlainRows, Window};
 use crate::labels::push_actor;
 use crate::places::actor_with;
 use dn_base::{Memory, Sequence, Shape};
@@ -183,6 +183,7 @@ pub fn keeping_of(
         later_words: later_words(alloc, text.places.code.as_slice())?,
         words: marked_words(alloc, words, text)?,
         actors: marked_actors(alloc, actors, shape)?,
+        window: None,
     })
 }
 
@@ -293,22 +294,74 @@ fn push_count(out: &mut Vec<u8>, kept: u64, whole: u64) -> Result<(), Memory>
     )
 }
 
-/// Adds why the others are left out.
+/// Adds the events of a slide, and how many of the range are left out.
+#[tactic(auto, unfolding(crate::specs::Choosing::window_note))]
+fn push_window(out: &mut Vec<u8>, window: Window, left: u64) -> Result<(), Memory>
+    ensures { OnOk result (out.new.items ≡ out.old.items ++ window_note window left) }
+{
+    push_pieces(
+        out,
+        &[
+            Bytes(b" events "),
+            Number(window.first),
+            Bytes(b" to "),
+            Number(window.behind.saturating_sub(1)),
+            Bytes(b", "),
+            Long(left),
+            Bytes(b" left out"),
+        ],
+    )
+}
+
+fn push_window_part(
+    out: &mut Vec<u8>,
+    is_first: bool,
+    left: u64,
+    window: Option<Window>,
+) -> Result<(), Memory>
+    ensures { OnOk result (out.new.items ≡ out.old.items ++ part_by_window is_first left window) }
+{
+    let Some(window) = window else {
+        return Ok(());
+    };
+    push_between(out, is_first)?;
+    push_window(out, window, left)
+}
+
+/// Whether nothing but a window leaves events out.
+fn names_nothing(keeping: &Keeping) -> bool
+    ensures { result ≡ names_nothing keeping.now }
+{
+    keeping.plain.is_all() && keeping.words.len() == 0 && keeping.actors.len() == 0
+}
+
+/// Adds why the others are left out, and how many they are.
 #[tactic(auto, unfolding(crate::specs::Choosing::reasons))]
 fn push_reasons(
     out: &mut Vec<u8>,
     keeping: &Keeping,
     text: &Located,
     shape: Shape,
+    left: u64,
 ) -> Result<(), Memory>
-    ensures { OnOk result (out.new.items ≡ out.old.items ++ reasons keeping.now text.now shape) }
+    ensures { OnOk result (out.new.items ≡ out.old.items ++ reasons keeping.now text.now shape left) }
 {
     let words = keeping.words.as_slice();
     let keeps_plain = keeping.plain.is_all();
     let is_first = keeps_plain && words.is_empty();
     push_plain_part(out, keeping.plain)?;
     push_words_part(out, keeps_plain, text, words)?;
-    push_actors_part(out, is_first, shape, keeping.actors.as_slice())
+    push_actors_part(out, is_first, shape, keeping.actors.as_slice())?;
+    push_window_part(out, names_nothing(keeping), left, keeping.window)
+}
+
+fn has_no_window(window: Option<Window>) -> bool
+    ensures { result ≡ has_no_window window }
+{
+    match window {
+        Some(_) => false,
+        None => true,
+    }
 }
 
 /// What follows the title where so many of so many events are kept; nothing where nothing is asked to be left out.
@@ -323,13 +376,13 @@ pub(crate) fn note(
     kept: u64,
     whole: u64,
 ) -> Result<Sequence<u8>, Memory>
-    ensures { IfOk result (λ note. note ≡ (if is_all keeping.now.plain && has_no_mark keeping.now.words && has_no_mark keeping.now.actors then [] else count_note kept whole ++ reasons keeping.now text.now shape)) }
+    ensures { IfOk result (λ note. note ≡ note_for keeping.now text.now shape kept whole) }
 {
     let mut out = Vec::new(alloc);
-    if keeping.plain.is_all() && keeping.words.len() == 0 && keeping.actors.len() == 0 {
+    if names_nothing(keeping) && has_no_window(keeping.window) {
         return Ok(Sequence::from_vec(out));
     }
     push_count(&mut out, kept, whole)?;
-    push_reasons(&mut out, keeping, text, shape)?;
+    push_reasons(&mut out, keeping, text, shape, whole.saturating_sub(kept))?;
     Ok(Sequence::from_vec(out))
 }

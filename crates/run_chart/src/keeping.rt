@@ -1,9 +1,9 @@
 //! What a chart keeps of the events of its range.
-ghost use Rattle.std.specs.Prelude.{◌≡◌, ◌+◌, ◌≤◌, ◌&&◌, filter, length, map, IfOk, OnOk};
+ghost use Rattle.std.specs.Prelude.{◌≡◌, ◌+◌, ◌≤◌, ◌&&◌, ◌++◌, filter, length, map, IfOk, OnOk};
 ghost use Rattle.std.specs.List.{list_any};
 ghost use Rattle.run_chart.specs.Arrows.{line_of_event};
 ghost use Rattle.run_chart.specs.Drawing.{row_lines};
-ghost use Rattle.run_chart.specs.Keeping.{accesses, chart_by, event_on_line, has_to_do, is_about, is_kept, is_later, is_of_actors, is_of_marked, is_of_words, is_plain, kept_changes, kept_chart, left_from, line_after, line_of, moved_from, moved_line, moved_origin, row_from, rows_from, shows_plain, tasks_from, with_origin, with_origins};
+ghost use Rattle.run_chart.specs.Keeping.{accesses, chart_by, ends_early, event_on_line, has_to_do, is_about, is_asked_for, comes_behind, is_in_window, is_kept, is_later, is_of_actors, is_of_marked, is_of_words, is_plain, kept_changes, kept_chart, left_from, left_below, line_after, line_of, mail_behind, handled_mail, mails_behind, moved_from, moved_line, moved_origin, row_from, rows_from, shows_plain, tasks_from, tasks_below, waits_below, with_origin, with_origins};
 ghost use Rattle.run_chart.specs.Choosing.{is_all, note_by, note_of};
 ghost use Rattle.run_chart.specs.Places.{is_shown};
 
@@ -27,8 +27,17 @@ pub enum PlainRows {
     Hidden,
 }
 
+/// Events that follow each other in a run, by their numbers.
+#[derive(Clone, Copy, PartialEq, Eq)]
+pub struct Window {
+    /// The first of them.
+    pub first: u32,
+    /// The first event behind them.
+    pub behind: u32,
+}
+
 /// Which events of its range a chart keeps. An event has a row if it is asked for as a plain instruction, if it is one, for its words,
-/// and for its actor.
+/// for its actor, and for its number.
 #[derive(Drop)]
 pub struct Keeping {
     /// Which plain instructions are kept.
@@ -40,6 +49,8 @@ pub struct Keeping {
     pub words: Sequence<bool>,
     /// A mark for each actor, by its index: the events of marked actors are kept. Without marks those of all are.
     pub actors: Sequence<bool>,
+    /// The events of a slide. Without a window all events of the range are asked for.
+    pub window: Option<Window>,
 }
 
 /// The greatest number of lines that a chart may have.
@@ -56,7 +67,7 @@ fn is_marked(marks: &[bool], index: u32) -> bool
 }
 
 /// Whether the instruction of a row needs nothing but registers of its task.
-fn is_plain(row: &ChartRow) -> bool
+pub(crate) fn is_plain(row: &ChartRow) -> bool
     ensures { result ≡ is_plain row.now }
 {
     match row.need {
@@ -72,6 +83,36 @@ fn is_later(marks: &[bool], about: About) -> bool
     match about {
         About::Code(number) => is_marked(marks, number),
         _ => false,
+    }
+}
+
+/// Whether an event is one of a window, if there is one.
+fn is_in_window(window: Option<Window>, event: u32) -> bool
+    ensures { result ≡ is_in_window window event }
+{
+    match window {
+        Some(window) => window.first <= event && event < window.behind,
+        None => true,
+    }
+}
+
+/// Whether an event comes behind the window.
+fn comes_behind(window: Option<Window>, event: u32) -> bool
+    ensures { result ≡ comes_behind window event }
+{
+    match window {
+        Some(window) => window.behind <= event,
+        None => false,
+    }
+}
+
+/// Whether the window ends before a run of this many events does.
+fn ends_early(window: Option<Window>, events: u32) -> bool
+    ensures { result ≡ ends_early window events }
+{
+    match window {
+        Some(window) => window.behind < events,
+        None => false,
     }
 }
 
@@ -370,6 +411,70 @@ fn left_mails(
     Ok(left)
 }
 
+/// The message that a row's event handles, if a row sent it.
+fn handled_mail(row: &ChartRow) -> Option<LeavingMail>
+    ensures { result ≡ handled_mail row.now row.now.mail }
+{
+    match row.mail {
+        Some(
+            Origin {
+                sender,
+                line: Some(sent),
+            },
+        ) => Some(LeavingMail {
+            sender,
+            sent,
+            to: row.actor,
+            kind: row.kind,
+            about: row.about,
+            line: 0,
+        }),
+        _ => None,
+    }
+}
+
+/// The message that an event behind the window handles.
+fn mail_behind(window: Option<Window>, row: &ChartRow) -> Option<LeavingMail>
+    ensures { result ≡ mail_behind window row.now }
+{
+    if comes_behind(window, row.event) {
+        handled_mail(row)
+    } else {
+        None
+    }
+}
+
+/// The messages that events behind the window handle.
+fn mails_behind(
+    alloc: Global,
+    window: Option<Window>,
+    rows: &[ChartRow],
+) -> Result<Sequence<LeavingMail>, Memory>
+    ensures { IfOk result (λ mails. mails ≡ mails_behind window rows.now) }
+{
+    let mut mails = Sequence::new(alloc);
+    for row in rows {
+        if let Some(mail) = mail_behind(window, row) {
+            mails.push(mail)?;
+        }
+    }
+    Ok(mails)
+}
+
+/// Messages, and after them others.
+fn with_others(
+    mails: Sequence<LeavingMail>,
+    others: &[LeavingMail],
+) -> Result<Sequence<LeavingMail>, Memory>
+    ensures { IfOk result (λ both. both ≡ mails ++ others.now) }
+{
+    let mut mails = mails;
+    for other in others {
+        mails.push(*other)?;
+    }
+    Ok(mails)
+}
+
 /// The tasks that wait for a lock, each on a line of its own; only those of marked cores where actors are marked.
 fn waiting_tasks(
     alloc: Global,
@@ -406,9 +511,9 @@ fn lines_behind(line: u32, count: usize) -> Result<u32, Memory>
 }
 
 impl Keeping {
-    /// Whether the event of a row is kept, on a machine of this shape.
-    fn is_kept(&self, shape: Shape, row: &ChartRow) -> bool
-        ensures { result ≡ is_kept self.now shape row.now }
+    /// Whether the event of a row is asked for, on a machine of this shape.
+    fn is_asked_for(&self, shape: Shape, row: &ChartRow) -> bool
+        ensures { result ≡ is_asked_for self.now shape row.now }
     {
         (!is_plain(row) || self.plain.shows(self.later_words.as_slice(), row.about))
             && is_of_words(self.words.as_slice(), row)
@@ -418,8 +523,15 @@ impl Keeping {
             )
     }
 
+    /// Whether it is kept: it is asked for, and one of the window's.
+    fn is_kept(&self, shape: Shape, row: &ChartRow) -> bool
+        ensures { result ≡ is_kept self.now shape row.now }
+    {
+        is_in_window(self.window, row.event) && self.is_asked_for(shape, row)
+    }
+
     /// The rows of the events that are kept, one below the other, and the line after them.
-    fn rows(
+    pub(crate) fn rows(
         &self,
         alloc: Global,
         shape: Shape,
@@ -441,24 +553,60 @@ impl Keeping {
     }
 }
 
+/// The messages that leave the window or the range, each on a line of its own from this one on.
+fn leaving_below(
+    alloc: Global,
+    keeping: &Keeping,
+    chart: &Chart,
+    placed: &[ChartRow],
+    line: u32,
+) -> Result<Sequence<LeavingMail>, Memory>
+    ensures { IfOk result (λ left. left ≡ left_below keeping.now chart.now placed.now line) }
+{
+    let whole = chart.rows.as_slice();
+    let behind = mails_behind(alloc, keeping.window, whole)?;
+    let mails = with_others(behind, chart.leaving.as_slice())?;
+    left_mails(alloc, whole, placed, line, mails.as_slice())
+}
+
+/// The tasks that wait when the run ends, if the window reaches its end, each on a line of its own from this one on.
+fn waiting_below(
+    alloc: Global,
+    keeping: &Keeping,
+    chart: &Chart,
+    line: u32,
+) -> Result<Sequence<WaitingTask>, Memory>
+    ensures { IfOk result (λ kept. kept ≡ waits_below keeping.now chart.now line) }
+{
+    if ends_early(keeping.window, chart.events) {
+        Ok(Sequence::new(alloc))
+    } else {
+        waiting_tasks(
+            alloc,
+            keeping.actors.as_slice(),
+            line,
+            chart.waiting.as_slice(),
+        )
+    }
+}
+
 /// The chart of rows that are kept, which end before a line; their arrows begin where they did in the whole chart.
-fn chart_with(
+pub(crate) fn chart_with(
     alloc: Global,
     chart: &Chart,
-    actors: &[bool],
+    keeping: &Keeping,
     columns: Columns,
     fit: Fit,
     note: Sequence<u8>,
     placed: &[ChartRow],
     line: u32,
 ) -> Result<Chart, Memory>
-    ensures { IfOk result (λ kept. kept ≡ chart_by actors.now columns fit note chart.now placed.now line) }
+    ensures { IfOk result (λ kept. kept ≡ chart_by keeping.now columns fit note chart.now placed.now line) }
 {
-    let whole = chart.rows.as_slice();
-    let rows = with_origins(alloc, whole, placed)?;
-    let leaving = left_mails(alloc, whole, placed, line, chart.leaving.as_slice())?;
+    let rows = with_origins(alloc, chart.rows.as_slice(), placed)?;
+    let leaving = leaving_below(alloc, keeping, chart, placed, line)?;
     let behind = lines_behind(line, leaving.len())?;
-    let waiting = waiting_tasks(alloc, actors, behind, chart.waiting.as_slice())?;
+    let waiting = waiting_below(alloc, keeping, chart, behind)?;
     let lines = lines_behind(behind, waiting.len())?;
     let shown = shown_actors(
         alloc,
@@ -502,10 +650,11 @@ fn note_with(
 /// What is kept of a chart.
 ///
 /// The rows of the events that are kept stand in their order, one below the other. Where words are marked, they have the changes of
-/// these words alone. An arrow begins at its sender's row; where the sender's event is left out, it begins above all rows, as one
-/// from before the range. A message that no event of the range handles has an arrow if its sender's event is kept. The tasks that
-/// wait for a lock at the end of the run are kept; where actors are marked, those of marked cores. The title says what is left out,
-/// with the names of the given text; it must be the text of the chart's run.
+/// these words alone. An arrow begins at its sender's row; where the sender's event is left out, it begins at the upper edge of its
+/// receiver's row, as one from before the range. A message that no event of the range handles, or one behind the window, has an arrow
+/// to a line of its own below the rows if its sender's event is kept. The tasks that wait for a lock at the end of the run are kept if
+/// the window reaches that end; where actors are marked, those of marked cores. The title says what is left out, with the names of the
+/// given text; it must be the text of the chart's run.
 ///
 /// The cost is that of the rows, and for each message that of going through the rows.
 ///
@@ -523,11 +672,10 @@ pub fn kept_chart(
 {
     let (placed, line) = keeping.rows(alloc, chart.shape, chart.rows.as_slice())?;
     let note = note_with(alloc, keeping, text, chart, placed.as_slice())?;
-    let actors = keeping.actors.as_slice();
     chart_with(
         alloc,
         chart,
-        actors,
+        keeping,
         columns,
         fit,
         note,

@@ -16,10 +16,11 @@ ghost use Rattle.run_chart.specs.declared.parts.WaitingTask.{WaitingTask};
 ghost use Rattle.run_chart.specs.declared.drawing.Range.{Range};
 ghost use Rattle.run_chart.specs.declared.finishing.Columns.{Columns};
 ghost use Rattle.run_chart.specs.declared.keeping.Keeping.{Keeping};
-ghost use Rattle.run_chart.specs.Arrows.{end_of_range, LeavesFromSender, TellsSender};
+ghost use Rattle.run_chart.specs.Arrows.{end_of_range, TellsSender};
 ghost use Rattle.run_chart.specs.Charts.{chart_of};
 ghost use Rattle.run_chart.specs.Keeping.{is_kept, kept_chart};
 ghost use Rattle.run_chart.specs.Places.{HasColumn};
+ghost use Rattle.run_chart.specs.Windows.{LeavesWindow};
 
 /// Each event of a chart that is kept has one row, in the order of the events, and no other event has one.
 pub fn each_event_that_is_kept_has_one_row()
@@ -33,15 +34,24 @@ pub fn rows_that_are_kept_do_not_overlap()
         → slice_get (kept_chart K columns fit note chart).rows i ≡ Some a → slice_get (kept_chart K columns fit note chart).rows j ≡ Some b → a.line + a.lines ≤ b.line }
 {}
 
+/// An arrow to no row ends on a line of its own: below all rows, and below the arrows to no row before it.
+pub fn arrows_without_a_receiver_end_on_lines_of_their_own()
+    ensures below { (K : Keeping) (columns : Columns) (fit : Fit) (note : List ℕ) (chart : Chart) (i j : ℕ) (row : ChartRow) (mail : LeavingMail)
+        → slice_get (kept_chart K columns fit note chart).rows i ≡ Some row → slice_get (kept_chart K columns fit note chart).leaving j ≡ Some mail → row.line + row.lines ≤ mail.line }
+    ensures apart { (K : Keeping) (columns : Columns) (fit : Fit) (note : List ℕ) (chart : Chart) (i j : ℕ) (a b : LeavingMail) → i < j
+        → slice_get (kept_chart K columns fit note chart).leaving i ≡ Some a → slice_get (kept_chart K columns fit note chart).leaving j ≡ Some b → a.line < b.line }
+{}
+
 /// The arrow of a message begins at the row of the event that sent it, where that event is kept, and in the column of that event's
-/// actor; it ends at a row that is kept, or leaves the range. Where the sender's event has no row, the arrow begins above all rows.
+/// actor; it ends at a row that is kept, or leaves the range or the window: then an event behind the window handles the message, and the
+/// arrow ends in the column of that event's actor. Where the sender's event has no row, the arrow begins at no row.
 pub fn arrows_between_rows_that_are_kept()
     ensures rows { (C : Setting) (events : List Event) (range : Range) (chain : List ℕ) (columns : Columns) (K : Keeping) (shown : Columns) (fit : Fit) (note : List ℕ) (i : ℕ) (row : ChartRow) → IsReady C → IsRun (initial_state C) events
         → slice_get (kept_chart K shown fit note (chart_of C events range chain columns)).rows i ≡ Some row
         → TellsSender (initial_state C) events (kept_chart K shown fit note (chart_of C events range chain columns)).rows row row.mail }
     ensures leaving { (C : Setting) (events : List Event) (range : Range) (chain : List ℕ) (columns : Columns) (K : Keeping) (shown : Columns) (fit : Fit) (note : List ℕ) (i : ℕ) (mail : LeavingMail) → IsReady C → IsRun (initial_state C) events
         → slice_get (kept_chart K shown fit note (chart_of C events range chain columns)).leaving i ≡ Some mail
-        → LeavesFromSender (initial_state C) events (kept_chart K shown fit note (chart_of C events range chain columns)).rows (end_of_range range events) mail }
+        → LeavesWindow (initial_state C) events (kept_chart K shown fit note (chart_of C events range chain columns)).rows (end_of_range range events) K.window mail }
 {}
 
 /// The actor of each row that is kept has a column, and so have the actors at both ends of each arrow that is kept and the cores of the

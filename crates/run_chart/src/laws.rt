@@ -39,7 +39,7 @@ pub fn the_events_of_the_chain_are_marked()
 
 /// The arrow of a message begins at the row of the event that sent it, which is the sender that the run's timing goes by, and in
 /// the column of that event's actor. The arrow of a message that an event of the range handles ends at that event's row, and
-/// begins above all rows where the sender comes before the range; a row without an arrow handles no message. Each message that an
+/// begins at no row where the sender comes before the range; a row without an arrow handles no message. Each message that an
 /// event of the range sent and none of them handles has an arrow too, which ends in the column of the actor that may handle it;
 /// no other message has one.
 pub fn arrows_lead_from_the_senders_of_mails()

@@ -79,7 +79,7 @@ pub struct WaitingTask {
 pub enum Fit {
     /// As wide as its columns and as high as its rows.
     Rows,
-    /// 16:9, for slides: 1,280 by 720 points, into which columns and rows are scaled.
+    /// 16:9, for slides: 1,280 by 720 points, into which what is larger or smaller is scaled.
     Slide,
 }
 

@@ -77,7 +77,7 @@ impl Chart {
     }
 
     /// The place of an actor's column.
-    fn place_of(&self, actor: Actor) -> u64
+    pub(crate) fn place_of(&self, actor: Actor) -> u64
         ensures value { result ≡ place_of self.now actor }
         ensures most { result ≤ 32 }
     {

@@ -3,13 +3,13 @@ ghost use Rattle.std.specs.Prelude.{◌≡◌, ◌≤◌, ◌++◌, ◌*◌, ◌
 ghost use Rattle.std.specs.Fmt.{decimal};
 ghost use Rattle.text_pieces.specs.Pieces.{space};
 ghost use Rattle.run_chart.specs.Elements.{head_from_left, head_from_right, line_to, words_at, words_begin, y_of};
-ghost use Rattle.run_chart.specs.Picture.{arrow, arrow_between, beside, change_words, changes_below, comes_from_right, dot, end_lines, ending_words, height_of, label, leaving_arrow, leaving_words, mail_class, number_words, point, ring, row_words, waiting_words};
+ghost use Rattle.run_chart.specs.Picture.{arrow, arrow_between, beside, change_words, changes_below, comes_from_right, dot, edge_mark, end_lines, ending_words, height_of, label, leaving_arrow, leaving_words, mail_class, number_words, point, ring, row_words, waiting_words};
 ghost use Rattle.run_chart.specs.Places.{column};
 ghost use Rattle.run_chart.specs.Labels.{label_text, task_end_text};
 
 use crate::elements::{
-    Point, TOP, push_circle, push_head_from_left, push_head_from_right, push_line,
-    push_words_begin, push_words_end, y_of,
+    Point, push_circle, push_head_from_left, push_head_from_right, push_line, push_words_begin,
+    push_words_end, y_of,
 };
 use crate::labels::{push_actor, push_change_text, push_ending, push_label, push_waiting};
 use crate::parts::{About, Chart, ChartRow, LeavingMail, Origin, WaitingTask};
@@ -84,13 +84,26 @@ fn push_arrow_between(out: &mut Vec<u8>, class: &[u8], from: Point, to: Point) -
     }
 }
 
-/// The height at which a message is sent.
-fn height_of(line: Option<u32>) -> u64
-    ensures { result ≡ height_of line }
+/// The height at which the arrow to a row on a line begins.
+fn height_of(line: u32, sent: Option<u32>) -> u64
+    ensures { result ≡ height_of line sent }
 {
-    match line {
-        Some(line) => y_of(line),
-        None => TOP,
+    match sent {
+        Some(sent) => y_of(sent),
+        None => y_of(line) - 9,
+    }
+}
+
+/// Adds the mark at which an arrow begins whose sender has no row.
+fn push_edge_mark(out: &mut Vec<u8>, at: Point, sent: Option<u32>) -> Result<(), Memory>
+    requires least { 300 ≤ at.x }
+    requires most { at.x ≤ 4524 }
+    ensures { OnOk result (out.new.items ≡ out.old.items ++ edge_mark at.x at.y sent) }
+{
+    let Point { x, y } = at;
+    match sent {
+        Some(_) => Ok(()),
+        None => push_line(out, b"mail", Point { x: x - 6, y }, Point { x: x + 6, y }),
     }
 }
 
@@ -113,8 +126,9 @@ fn push_arrow(out: &mut Vec<u8>, chart: &Chart, row: &ChartRow) -> Result<(), Me
     };
     let from = Point {
         x: chart.column(mail.sender),
-        y: height_of(mail.line),
+        y: height_of(row.line, mail.line),
     };
+    push_edge_mark(out, from, mail.line)?;
     push_arrow_between(out, mail_class(mail.line), from, chart.dot(row))
 }
 

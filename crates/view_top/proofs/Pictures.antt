@@ -11,9 +11,11 @@ use Rattle.run_timing.specs.Longest.{numbers_in}
 use Rattle.run_chart.specs.declared.parts.Chart.{Chart}
 use Rattle.run_chart.specs.Picture.{svg_of}
 use Rattle.run_chart.specs.declared.drawing.Range.{Range}
+use Rattle.run_chart.specs.declared.finishing.Columns.{Columns}
 use Rattle.run_chart.specs.declared.keeping.Keeping.{Keeping}
 use Rattle.run_chart.specs.Choosing.{keeping_of, note_of}
 use Rattle.run_chart.specs.Keeping.{kept_chart}
+use Rattle.run_chart.specs.Slides.{columns_on, fitted}
 use Rattle.run_chart.specs.Charts.{IsChartOf}
 use Rattle.run_report.specs.Texts.{HasProgram}
 use Rattle.checked_runs.specs.Documents.{shape_told}
@@ -34,12 +36,14 @@ chain-is k o ticks timing links (Ok chain) are same timed numbers =
     record { program = P; is = timed.is; holds = record { timing = timing; times = times; is = numbers ∙ ap numbers_in same } }
 
 -- what is kept of a chart is what the options keep
-pub kept-is : (o : ChartOptions) (L : Located) (chart kept : Chart) (K : Keeping) (words actors : List ℕ) → words ≡ o.words → actors ≡ o.actors → K ≡ keeping_of o.picture.plain words actors L chart.shape
-    → kept ≡ kept_chart K o.picture.columns o.picture.fit (note_of K L chart) chart → kept ≡ kept_by o L chart
-kept-is o L chart kept K words actors these those keeps is =
+pub kept-is : (o : ChartOptions) (L : Located) (chart kept : Chart) (named K : Keeping) (columns : Columns) (words actors : List ℕ) → words ≡ o.words → actors ≡ o.actors
+    → named ≡ keeping_of o.picture.plain words actors L chart.shape → K ≡ fitted o.picture.fit named chart → columns ≡ columns_on o.picture.fit o.picture.columns
+    → kept ≡ kept_chart K columns o.picture.fit (note_of K L chart) chart → kept ≡ kept_by o L chart
+kept-is o L chart kept named K columns words actors these those names keeps across is =
     let listed = ap (λ (ws : List ℕ). keeping_of o.picture.plain ws actors L chart.shape) these in
     let chosen = ap (λ (names : List ℕ). keeping_of o.picture.plain o.words names L chart.shape) those in
-    is ∙ ap (λ (k : Keeping). kept_by_these k o L chart) (keeps ∙ listed ∙ chosen)
+    let fit = keeps ∙ ap (λ (k : Keeping). fitted o.picture.fit k chart) (names ∙ listed ∙ chosen) in
+    is ∙ ap (λ (c : Columns). kept_chart K c o.picture.fit (note_of K L chart) chart) across ∙ ap (λ (k : Keeping). kept_by_these k o L chart) fit
 
 -- the picture has the names of the text
 pub drawn-is : (o : ChartOptions) (text : List ℕ) (chart : Chart) (L : Located) (picture : List ℕ) (out : Output) → source text ≡ Ok L.program → L.places ≡ text_places text → picture ≡ svg_of (kept_by o L chart) L → out ≡ made picture

@@ -27,6 +27,7 @@ use Rattle.run_chart.specs.declared.parts.Chart.{Chart}
 use Rattle.run_chart.specs.Picture.{svg_of}
 use Rattle.run_chart.specs.Choosing.{keeping_of, note_of}
 use Rattle.run_chart.specs.Keeping.{kept_chart}
+use Rattle.run_chart.specs.Slides.{columns_on, fitted}
 use Rattle.run_chart.specs.declared.keeping.Keeping.{Keeping}
 use Rattle.run_chart.specs.declared.drawing.Range.{Range}
 use Rattle.run_chart.specs.Charts.{IsChartOf}
@@ -95,12 +96,12 @@ chart_ticks o = ticks_by o.tick_core o.tick_bank o.tick_mail
 abbrev pub last_number : List Event → ℕ
 last_number events = length events - 1
 
--- what the options keep of a chart, in the size that they ask for; the title says what is left out
+-- what the options keep of a chart, in the size that they ask for: on a slide no more than has room; the title says what is left out
 abbrev pub kept_by_these : Keeping → ChartOptions → Located → Chart → Chart
-kept_by_these K o L chart = kept_chart K o.picture.columns o.picture.fit (note_of K L chart) chart
+kept_by_these K o L chart = kept_chart K (columns_on o.picture.fit o.picture.columns) o.picture.fit (note_of K L chart) chart
 
 abbrev pub kept_by : ChartOptions → Located → Chart → Chart
-kept_by o L chart = kept_by_these (keeping_of o.picture.plain o.words o.actors L chart.shape) o L chart
+kept_by o L chart = kept_by_these (fitted o.picture.fit (keeping_of o.picture.plain o.words o.actors L chart.shape) chart) o L chart
 
 -- the output is the picture of what is kept of the run's chart, with the rows and the columns that the options ask for, and with marks
 -- on the events of the run's longest chain; words, code words and locks have the names of the text

@@ -18,7 +18,9 @@ use crate::timings::timing_on;
 use dn_base::{Memory, Sequence};
 use dn_machine::Machine;
 use message_net::Event;
-use run_chart::{Chart, Charted, Columns, Range, chart, chart_text, keeping_of, kept_chart};
+use run_chart::{
+    Chart, Charted, Columns, Range, chart, chart_text, columns_on, fitted, keeping_of, kept_chart,
+};
 use run_report::Stop;
 use run_timing::{Link, Ticks};
 use std::alloc::Global;
@@ -117,8 +119,10 @@ fn picture_of(
     let picture = options.picture;
     let words = options.words.as_slice();
     let actors = options.actors.as_slice();
-    let keeping = keeping_of(alloc, picture.plain, words, actors, text, chart.shape)?;
-    let kept = kept_chart(alloc, chart, &keeping, picture.columns, picture.fit, text)?;
+    let named = keeping_of(alloc, picture.plain, words, actors, text, chart.shape)?;
+    let keeping = fitted(alloc, chart, &named, picture.fit)?;
+    let columns = columns_on(picture.fit, picture.columns);
+    let kept = kept_chart(alloc, chart, &keeping, columns, picture.fit, text)?;
     chart_text(alloc, &kept, text)
 }
 
