@@ -1,4 +1,4 @@
-//! The library for C, on one thread: five programs as functions, from arguments and what a program reads in memory to its answer and its
+//! The library for C, on one thread: six programs as functions, from arguments and what a program reads in memory to its answer and its
 //! exit code; and a machine that the caller steps event by event. `include/denovo.h` and `include/denovo_step.h` say what a caller owes.
 #![tactic(auto)]
 
@@ -24,6 +24,9 @@ ghost use Rattle.outcomes_top.specs.Status.{outcomes_code, outcomes_told};
 ghost use Rattle.denovo_c.specs.StepCalls.{IsListCall, IsOpenCall, IsStepCall};
 ghost use Rattle.denovo_c.specs.Texts.{IsExplainServed};
 ghost use Rattle.machine_rules.specs.Memory.{word_value};
+ghost use Rattle.sweep_top.specs.Answers.{IsSweepAnswer};
+ghost use Rattle.sweep_top.specs.Command.{sweep_of};
+ghost use Rattle.sweep_top.specs.Status.{sweep_code, sweep_told};
 
 mod answering;
 mod buffer;
@@ -51,6 +54,7 @@ use served::{answer_denovo, answer_explain};
 pub use slice_source::SliceSource;
 use std::alloc::Global;
 use steps::{Sizes, enabled_codes, open_machine, step};
+use sweep_top::Sweep;
 use view_top::Viewer;
 pub use words::words_in;
 
@@ -118,6 +122,20 @@ pub extern "C" fn outcomes_answer(
     ensures { IsHandedOut outcomes_code (Serves outcomes_told IsOutcomesAnswer (outcomes_fuel_of (block_words words.now)) (before_call source.now)) out.old out.new written.new result }
 {
     answer_in_memory::<CommonOutcomes>(alloc, words, source, out, written)
+}
+
+/// Answers arguments and a text, as the program `sweep` does. The parameters are those of `denovo_answer`.
+#[unsafe(no_mangle)]
+pub extern "C" fn sweep_answer(
+    alloc: Global,
+    words: &[u8],
+    source: &[u8],
+    out: &mut [u8],
+    written: &mut usize,
+) -> i32
+    ensures { IsHandedOut sweep_code (Serves sweep_told IsSweepAnswer (sweep_of (block_words words.now)) (before_call source.now)) out.old out.new written.new result }
+{
+    answer_in_memory::<Sweep>(alloc, words, source, out, written)
 }
 
 /// Answers arguments, a text and the answer that was printed for it, as the program `explain` does where the words name this
