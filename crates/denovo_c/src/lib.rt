@@ -161,7 +161,7 @@ pub extern "C" fn explain_answer(
 
 /// Opens the machine of a text, as it is when a run begins, with these banks (1 to 16), sets (1 to 256), ways (1 to 16) and fuel (1 to
 /// 32,768). A machine that the handle has is closed first. The result is 0, or 1 if a number is out of its range, 2 if the text is refused,
-/// and 8 if there isn't enough memory; then the handle has no machine.
+/// and 8 if there isn't enough memory, also where the text would be refused; then the handle has no machine.
 #[unsafe(no_mangle)]
 pub extern "C" fn denovo_open(
     alloc: Global,
@@ -192,7 +192,7 @@ pub extern "C" fn denovo_open(
 }
 
 /// Lists the enabled events: `written` becomes their number, and `out` shows the first of them, as many as fit. The result is 0, or 1 if
-/// there is no machine, and 8 if there isn't enough memory.
+/// there is no machine, and 8 if an event is enabled and there isn't enough memory.
 #[unsafe(no_mangle)]
 pub extern "C" fn denovo_enabled(
     alloc: Global,
@@ -219,7 +219,7 @@ pub extern "C" fn denovo_enabled(
 }
 
 /// Makes an event. The result is 0; or 1 if there is no machine or no such event, or it has made 4,000,000,000 events; 3 if the event isn't
-/// enabled; and 8 if there isn't enough memory. Then the machine stays as it is.
+/// enabled; and 8 if it is enabled and there isn't enough memory. Then the machine stays as it is.
 #[unsafe(no_mangle)]
 pub extern "C" fn denovo_step(alloc: Global, machine: &mut Handle, event: &EventCode) -> i32
     ensures { IsStepCall machine.old.machine machine.new.machine event.now result }
