@@ -11,7 +11,8 @@
  *     }
  *
  * Link with libdenovo.a or libdenovo.so (tools/library makes both). What each function promises is proved of the machine behind the pointer:
- * the machine of the text when it is opened, the enabled events exactly, and the state to which an event leads (crates/denovo_c/src/lib.rt).
+ * the machine of the text when it is opened, the enabled events exactly, and the state to which an event leads (crates/denovo_c/src/lib.rt). So after
+ * any steps the machine is in the state of a run of the text, which is complete where no event is enabled.
  *
  * What the caller owes, and nothing tests, besides what include/denovo.h says of pointers, sizes and stack (text and out may be null where their
  * size is 0):

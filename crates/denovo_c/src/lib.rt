@@ -47,7 +47,10 @@ use codes::{EventCode, show_codes};
 use dn_base::WordId;
 use handle::Handle;
 pub use held_sink::HeldSink;
-pub use laws::{a_buffer_with_room_has_the_whole_answer, a_smaller_buffer_has_the_first_bytes};
+pub use laws::{
+    a_buffer_with_room_has_the_whole_answer, a_handle_has_a_run,
+    a_smaller_buffer_has_the_first_bytes,
+};
 use outcomes_top::CommonOutcomes;
 use referee_top::Referee;
 use served::{answer_denovo, answer_explain};
