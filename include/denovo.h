@@ -6,7 +6,7 @@
  * Parameters
  *   words       the command words, without the program's name, each ended by a zero byte: "--seed\0" "7\0" has 9 bytes. A word that isn't
  *               UTF-8 is refused, like any word that the command doesn't take.
- *   source      what the program reads from standard input: a text (denovo, outcomes), the document of a run (view), a claim (referee), an answer
+ *   source      what the program reads from standard input: a text (denovo, outcomes, sweep), the document of a run (view), a claim (referee), an answer
  *               (explain).
  *   text        explain alone: the text that the answer was printed for. The words name it; any name will do.
  *   out         becomes the first bytes of the answer, as many as fit. Nothing else in it changes.
@@ -44,6 +44,10 @@ int32_t view_answer(const uint8_t *words, size_t words_size, const uint8_t *sour
 /* What ./outcomes says that every run of a text has in common: settled (0), or why it is open (3). */
 int32_t outcomes_answer(const uint8_t *words, size_t words_size, const uint8_t *source, size_t source_size,
                         uint8_t *out, size_t out_size, size_t *written);
+
+/* What ./sweep prints of the runs of a text by many seeds: a summary, a table of answers, or a row for each run. */
+int32_t sweep_answer(const uint8_t *words, size_t words_size, const uint8_t *source, size_t source_size,
+                     uint8_t *out, size_t out_size, size_t *written);
 
 /* What ./referee says of another simulator's claim. */
 int32_t referee_answer(const uint8_t *words, size_t words_size, const uint8_t *source, size_t source_size,

@@ -187,7 +187,7 @@ export const run = (text, options = {}) => new Answer(text, answerOf('denovo', o
 export const check = text => answerOf('denovo', {mode: 'check'}, text, text).trim();
 /** What every run of a text has in common, for every order in which the tasks get their locks. */
 export const outcomes = (text, options = {}) => new Outcomes(text, answerOf('outcomes', options, text, text));
-/** Where the module has the program: what `sweep` prints of the runs of a text by many seeds. Options: seeds, form, retired, banks, sets, ways, fuel. */
+/** What `sweep` prints of the runs of a text by many seeds. Options: seeds, form, retired, banks, sets, ways, fuel. */
 export const sweep = (text, options = {}) => answerOf('sweep', options, text, text);
 /** The lines of the mode prove. */
 export const prove = text => answerOf('denovo', {mode: 'prove'}, text, text);

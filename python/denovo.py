@@ -7,6 +7,7 @@
     answer.tasks[0].retired   # how each task ended
     answer.grants, answer.counts
     denovo.outcomes(text)     # what every run of the text has in common
+    denovo.sweep(text)        # its runs by many seeds, summed up
     denovo.chart(text)        # in a notebook: the message chart of the run
     denovo.Stepper(text)      # a machine that is stepped, event by event
 
@@ -82,11 +83,11 @@ def _word(word):
 
 
 # each program, and how many sources it reads
-_SOURCES = {"denovo": 1, "view": 1, "outcomes": 1, "referee": 1, "explain": 2}
+_SOURCES = {"denovo": 1, "view": 1, "outcomes": 1, "sweep": 1, "referee": 1, "explain": 2}
 
 
 def call(program, words, *sources):
-    """What a program (denovo, view, outcomes, referee or explain) answers to command words and its sources: the exit code and the bytes."""
+    """What a program (denovo, view, outcomes, sweep, referee or explain) answers to command words and its sources: the exit code and the bytes."""
     if program not in _SOURCES:
         raise ValueError(f"{program!r} is no program of the library")
     if len(sources) != _SOURCES[program]:
@@ -258,6 +259,12 @@ def check(text):
 def outcomes(text, fuel=None):
     """What every run of a text has in common, for every order in which the tasks get their locks."""
     return Outcomes(text, _told("outcomes", {"fuel": fuel}, text, text=text)[1])
+
+
+def sweep(text, **options):
+    """What `sweep` prints of the runs of a text by many seeds. Options: seeds="1..1000", form ("summary", "answers" or "csv"), retired ("on" or
+    "off"), banks, sets, ways, fuel."""
+    return _told("sweep", options, text, text=text)[1].decode()
 
 
 def prove(text):

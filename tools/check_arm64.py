@@ -29,12 +29,13 @@ def calls():
         answer, trace = denovo.call("denovo", [], text)[1], denovo.call("denovo", ["--mode", "trace"], text)[1]
         yield "explain", [str(path)], text, answer
         yield "outcomes", [], None, text
+        yield "sweep", ["--seeds", "1..3"], None, text
         if trace.startswith(b"denovo-trace"):
             for mode in ("chart", "page", "account", "state"):
                 yield "view", ["--mode", mode], None, trace
     claim = subprocess.run([sys.executable, "examples/another-simulator/simulate.py"], input=texts[0].read_bytes(), stdout=subprocess.PIPE).stdout
     yield "referee", ["--mode", "diagnose"], None, claim
-    for program in ("denovo", "view", "outcomes", "referee"):
+    for program in ("denovo", "view", "outcomes", "sweep", "referee"):
         yield program, ["--nothing"], None, b""
 
 

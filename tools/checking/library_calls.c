@@ -54,6 +54,8 @@ static int32_t called(const char *name, struct bytes given, struct bytes text, s
         return view_answer(given.at, given.size, source.at, source.size, out.at, out.size, written);
     if (strcmp(name, "outcomes") == 0)
         return outcomes_answer(given.at, given.size, source.at, source.size, out.at, out.size, written);
+    if (strcmp(name, "sweep") == 0)
+        return sweep_answer(given.at, given.size, source.at, source.size, out.at, out.size, written);
     if (strcmp(name, "referee") == 0)
         return referee_answer(given.at, given.size, source.at, source.size, out.at, out.size, written);
     return denovo_answer(given.at, given.size, source.at, source.size, out.at, out.size, written);
@@ -123,10 +125,11 @@ int main(int count, char **names)
     answered("denovo", "--nothing", none, text);
     answered("view", "--mode account", none, trace);
     answered("outcomes", "", none, text);
+    answered("sweep", "--seeds 1..9", none, text);
     answered("referee", "--mode judge", none, claim);
     answered("explain", "text", text, answer);
-    const char *all[] = {"denovo", "view", "outcomes", "referee", "explain"};
-    for (int at = 0; at < 5; at++) {
+    const char *all[] = {"denovo", "view", "outcomes", "sweep", "referee", "explain"};
+    for (int at = 0; at < 6; at++) {
         size_t length = 0;
         int32_t code = called(all[at], none, none, none, none, &length);
         printf("%s of nothing: %d %zu\n", all[at], (int)code, length);

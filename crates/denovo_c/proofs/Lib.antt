@@ -1,4 +1,5 @@
 mod Blocks
 mod Handles
+mod Sessions
 mod Starving
 mod Values

@@ -2,6 +2,7 @@ pub mod Calls
 pub mod Codes
 pub mod Held
 pub mod HeldMachines
+pub mod Sessions
 pub mod Shown
 pub mod StepCalls
 pub mod Steps

@@ -1,5 +1,6 @@
 -- What a C caller sees of a call: the machine behind its handle before and after, and the result.
 use Rattle.std.specs.Prelude.{◌≡◌, ◌⊎◌, ℕ, ℤ, pos, List, Option, Some, None, map, length}
+use Rattle.machine_rules.specs.Runs.{IsOver}
 use Rattle.dn_machine.specs.Kept.{Made}
 use Rattle.state_text.specs.Coming.{enabled_events}
 use Rattle.denovo_c.specs.declared.codes.EventCode.{EventCode}
@@ -14,12 +15,12 @@ abbrev pub IsOpenCall : List ℕ → Sizes → Option Made → ℤ → Type 0
 IsOpenCall text sizes (Some m) result = (result ≡ pos 0) × IsOpened text sizes m
 IsOpenCall text sizes None result = (why : Unopened) × (result ≡ why_code why) × IsUnopened text sizes why
 
--- the list is shown and counted; or there is no machine, or no memory
+-- the list is shown and counted; or there is no machine; or an event is enabled, and there is no memory
 abbrev pub IsListCall : Option Made → List EventCode → List EventCode → ℕ → ℤ → Type 0
 IsListCall None before after written result = (result ≡ pos 1) × (after ≡ before) × (written ≡ 0)
 IsListCall (Some m) before after written result =
     ((result ≡ pos 0) × (after ≡ codes_shown (map event_code (enabled_events m.state)) before) × (written ≡ length (map event_code (enabled_events m.state))))
-    ⊎ ((result ≡ pos 8) × (after ≡ before) × (written ≡ 0))
+    ⊎ ((result ≡ pos 8) × (IsOver m.state → ⊥) × (after ≡ before) × (written ≡ 0))
 
 -- the event of the code was tried, and the handle has the machine after it
 abbrev pub IsStepCall : Option Made → Option Made → EventCode → ℤ → Type 0

@@ -1,4 +1,4 @@
-//! The library for C, on one thread: five programs as functions, from arguments and what a program reads in memory to its answer and its
+//! The library for C, on one thread: six programs as functions, from arguments and what a program reads in memory to its answer and its
 //! exit code; and a machine that the caller steps event by event. `include/denovo.h` and `include/denovo_step.h` say what a caller owes.
 #![tactic(auto)]
 
@@ -24,6 +24,9 @@ ghost use Rattle.outcomes_top.specs.Status.{outcomes_code, outcomes_told};
 ghost use Rattle.denovo_c.specs.StepCalls.{IsListCall, IsOpenCall, IsStepCall};
 ghost use Rattle.denovo_c.specs.Texts.{IsExplainServed};
 ghost use Rattle.machine_rules.specs.Memory.{word_value};
+ghost use Rattle.sweep_top.specs.Answers.{IsSweepAnswer};
+ghost use Rattle.sweep_top.specs.Command.{sweep_of};
+ghost use Rattle.sweep_top.specs.Status.{sweep_code, sweep_told};
 
 mod answering;
 mod buffer;
@@ -44,13 +47,17 @@ use codes::{EventCode, show_codes};
 use dn_base::WordId;
 use handle::Handle;
 pub use held_sink::HeldSink;
-pub use laws::{a_buffer_with_room_has_the_whole_answer, a_smaller_buffer_has_the_first_bytes};
+pub use laws::{
+    a_buffer_with_room_has_the_whole_answer, a_handle_has_a_run,
+    a_smaller_buffer_has_the_first_bytes,
+};
 use outcomes_top::CommonOutcomes;
 use referee_top::Referee;
 use served::{answer_denovo, answer_explain};
 pub use slice_source::SliceSource;
 use std::alloc::Global;
 use steps::{Sizes, enabled_codes, open_machine, step};
+use sweep_top::Sweep;
 use view_top::Viewer;
 pub use words::words_in;
 
@@ -120,6 +127,20 @@ pub extern "C" fn outcomes_answer(
     answer_in_memory::<CommonOutcomes>(alloc, words, source, out, written)
 }
 
+/// Answers arguments and a text, as the program `sweep` does. The parameters are those of `denovo_answer`.
+#[unsafe(no_mangle)]
+pub extern "C" fn sweep_answer(
+    alloc: Global,
+    words: &[u8],
+    source: &[u8],
+    out: &mut [u8],
+    written: &mut usize,
+) -> i32
+    ensures { IsHandedOut sweep_code (Serves sweep_told IsSweepAnswer (sweep_of (block_words words.now)) (before_call source.now)) out.old out.new written.new result }
+{
+    answer_in_memory::<Sweep>(alloc, words, source, out, written)
+}
+
 /// Answers arguments, a text and the answer that was printed for it, as the program `explain` does where the words name this
 /// text: any name stands for it. The other parameters are those of `denovo_answer`.
 #[unsafe(no_mangle)]
@@ -143,7 +164,7 @@ pub extern "C" fn explain_answer(
 
 /// Opens the machine of a text, as it is when a run begins, with these banks (1 to 16), sets (1 to 256), ways (1 to 16) and fuel (1 to
 /// 32,768). A machine that the handle has is closed first. The result is 0, or 1 if a number is out of its range, 2 if the text is refused,
-/// and 8 if there isn't enough memory; then the handle has no machine.
+/// and 8 if there isn't enough memory, also where the text would be refused; then the handle has no machine.
 #[unsafe(no_mangle)]
 pub extern "C" fn denovo_open(
     alloc: Global,
@@ -174,7 +195,7 @@ pub extern "C" fn denovo_open(
 }
 
 /// Lists the enabled events: `written` becomes their number, and `out` shows the first of them, as many as fit. The result is 0, or 1 if
-/// there is no machine, and 8 if there isn't enough memory.
+/// there is no machine, and 8 if an event is enabled and there isn't enough memory.
 #[unsafe(no_mangle)]
 pub extern "C" fn denovo_enabled(
     alloc: Global,
@@ -201,7 +222,7 @@ pub extern "C" fn denovo_enabled(
 }
 
 /// Makes an event. The result is 0; or 1 if there is no machine or no such event, or it has made 4,000,000,000 events; 3 if the event isn't
-/// enabled; and 8 if there isn't enough memory. Then the machine stays as it is.
+/// enabled; and 8 if it is enabled and there isn't enough memory. Then the machine stays as it is.
 #[unsafe(no_mangle)]
 pub extern "C" fn denovo_step(alloc: Global, machine: &mut Handle, event: &EventCode) -> i32
     ensures { IsStepCall machine.old.machine machine.new.machine event.now result }
