@@ -110,6 +110,8 @@ class Run:
 
     def claim(self, fuel, memory=None):
         """The claim of the run, whose tasks have all ended. The final memory is what the log has stored, or the bytes that are given."""
+        if not self.tasks and any(self.program.phases):
+            raise NotALog("no task of the text begins: the log has no marks, or they are elsewhere (--marks)")
         for task in self.tasks.values():
             if not task.has_ended:
                 raise NotALog(f"the task of core {task.core} in phase {task.phase} doesn't end")
