@@ -3,7 +3,7 @@
  * The code of the tasks is that of the text, word by word, at its own addresses: pages of Sv32 lead from 0x1000 and 0x10000000 to where code and
  * data lie. An ecall leads here, to the end of the task, to a lock, or to its release. Locks are words that AMOs take. Between two phases is a
  * barrier of AMOs. Data pages give no permission, so that each load and store leads here too: the hart does it by an instruction of the same
- * width, and writes down what a load found. At the end the first hart writes grants, ends of tasks, loads and the memory to the serial port.
+ * width, and writes down what a load found. At the end the first hart writes grants and releases, ends of tasks, loads and the memory to the serial port.
  *
  * NATIVE maps the data, so that loads and stores are the task's own, and none is written down.
  * These make it wrong, for tests: EARLY_CORE=N lets core N go on before the barrier; PLAIN_LOCK takes locks by a load and a store, WINDOW
@@ -13,7 +13,7 @@
 typedef uint32_t u32;
 typedef volatile uint32_t shared;
 
-enum { CORES = 16, PHASES = 64, LOCKS = 32, MOST_GRANTS = 1 << 16, MOST_LOADS = 1 << 17 };
+enum { CORES = 16, PHASES = 64, LOCKS = 32, MOST_TURNS = 1 << 17, MOST_LOADS = 1 << 17 };
 enum { PAGE = 4096, CODE = 0x1000, DATA = 0x10000000 };
 enum { VALID = 1, READ = 2, WRITE = 4, EXECUTE = 8, USER = 16, USED = 0xc0 };
 /* how a task ended; a cause of the machine is added to TRAPPED */
@@ -24,7 +24,8 @@ enum { BEGINS = 1, GRANTED, RELEASED, ENDS };
 struct task { u32 entry, argument; };
 struct end { u32 kind, pc, value, first_load, loads; };
 struct access { u32 word, value; };
-struct grant { u32 phase, core, lock; };
+/* a grant or a release of a lock */
+struct turn { u32 kind, phase, core, lock; };
 struct frame { u32 x[32]; };
 
 extern const u32 denovo_phases, denovo_words, denovo_code_words, denovo_locks, denovo_cores;
@@ -34,8 +35,8 @@ extern shared denovo_data[];
 
 __attribute__((section(".marks"))) shared marks[CORES];
 __attribute__((aligned(PAGE))) static u32 root[1024], code_pages[1024], data_pages[1024];
-static shared ready, over, made_grants, locks[LOCKS], arrived[PHASES];
-static struct grant grants[MOST_GRANTS];
+static shared ready, over, made_turns, locks[LOCKS], arrived[PHASES];
+static struct turn turns[MOST_TURNS];
 static struct end ends[PHASES][CORES];
 static struct access loads[CORES][MOST_LOADS];
 static u32 phase_of[CORES], held[CORES], made_loads[CORES];
@@ -120,19 +121,25 @@ static void take(shared *lock)
 #endif
 }
 
+/* Writes down a grant or a release, while the lock is held: so those of one lock have their numbers in their order. */
+static void note(u32 core, u32 kind, u32 lock)
+{
+    u32 number = add(&made_turns, 1);
+    if (number < MOST_TURNS) turns[number] = (struct turn){kind, phase_of[core], core, lock};
+    mark(core, kind, lock);
+}
+
 static void acquire(u32 core, u32 lock)
 {
     take(&locks[lock]);
     held[core] |= 1u << lock;
-    u32 number = add(&made_grants, 1);
-    if (number < MOST_GRANTS) grants[number] = (struct grant){phase_of[core], core, lock};
-    mark(core, GRANTED, lock);
+    note(core, GRANTED, lock);
 }
 
 static void release(u32 core, u32 lock)
 {
     held[core] &= ~(1u << lock);
-    mark(core, RELEASED, lock);
+    note(core, RELEASED, lock);
     swap(&locks[lock], 0);
 }
 
@@ -174,9 +181,9 @@ static void put_task(u32 phase, u32 core)
 static void put_all(void)
 {
     put_text("denovo-run 1\n");
-    for (u32 number = 0; number < made_grants; number++) {
-        struct grant grant = grants[number];
-        put_text("grant"); put_number(grant.phase); put_number(grant.core); put_number(grant.lock); put('\n');
+    for (u32 number = 0; number < made_turns; number++) {
+        struct turn turn = turns[number];
+        put_text(turn.kind == GRANTED ? "grant" : "release"); put_number(turn.phase); put_number(turn.core); put_number(turn.lock); put('\n');
     }
     for (u32 phase = 0; phase < denovo_phases; phase++)
         for (u32 core = 0; core < CORES; core++)
