@@ -62,7 +62,8 @@ static u32 add(shared *at, u32 value)
 
 /* ---------------------------------------------------------------- the machine virt of QEMU: time, serial port, and the end */
 
-static shared *const time_now = (shared *)0x0200bff8;     /* ten million a second */
+static shared *const time_now = (shared *)0x0200bff8;     /* ten million a second, in two words */
+static shared *const time_of_alarm = (shared *)0x02004000; /* two words for each hart */
 static volatile uint8_t *const serial = (volatile uint8_t *)0x10000000;
 static shared *const finisher = (shared *)0x00100000;
 
@@ -84,6 +85,24 @@ static void put_number(u32 number)
     put(' ');
     while (shift > 0 && !(number >> shift)) shift -= 4;
     for (; shift >= 0; shift -= 4) put("0123456789abcdef"[number >> shift & 15]);
+}
+
+/* Sleeps for some 50 microseconds, so that other harts get the processors of the host. The alarm wakes the hart, and isn't taken. */
+static void nap(void)
+{
+    shared *alarm = time_of_alarm + 2 * READ_CSR(mhartid);
+    uint64_t until = ((uint64_t)time_now[1] << 32 | time_now[0]) + 500;
+    alarm[1] = 0xffffffff, alarm[0] = (u32)until, alarm[1] = (u32)(until >> 32);
+    WRITE_CSR(mie, 0x80);
+    __asm__ volatile("wfi" : : : "memory");
+    WRITE_CSR(mie, 0);
+}
+
+/* Waits until a word has a value or, if is_least is set, that value or more: first in a loop, then with naps. */
+static void wait_for(shared *word, u32 value, int is_least)
+{
+    for (u32 turn = 0; is_least ? *word < value : *word != value; turn++)
+        if (turn >= 1000) nap();
 }
 
 /* ---------------------------------------------------------------- locks and the barrier */
@@ -112,12 +131,12 @@ static void shake(u32 core)
 static void take(shared *lock)
 {
 #ifdef PLAIN_LOCK
-    while (*lock) { }
+    wait_for(lock, 0, 0);
     for (u32 from = *time_now; *time_now - from < 10u * WINDOW;) { }
     *lock = 1;
     fence();
 #else
-    while (swap(lock, 1)) while (*lock) { }
+    while (swap(lock, 1)) wait_for(lock, 0, 0);
 #endif
 }
 
@@ -152,8 +171,7 @@ static u32 cores_in_all(void)
 
 static void wait_for_all(shared *count)
 {
-    u32 all = cores_in_all();
-    while (*count < all) { }
+    wait_for(count, cores_in_all(), 1);
     fence();
 }
 
@@ -311,7 +329,7 @@ void begin(u32 core, struct frame *frame)
 #endif
         swap(&ready, 1);
     }
-    while (!ready) { }
+    wait_for(&ready, 1, 1);
     fence();
     WRITE_CSR(pmpaddr0, 0xffffffff);
     WRITE_CSR(pmpcfg0, 0x1f);
