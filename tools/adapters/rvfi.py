@@ -32,13 +32,20 @@ def accessed(row):
     return row["mem_addr"] + shift, value >> 8 * shift, row["mem_wmask"] != 0
 
 
+def rows_of(lines):
+    """The rows of the log, by the names of its columns."""
+    try:
+        rows = csv.DictReader(lines)
+        named = {name.strip().removeprefix("rvfi_") for name in rows.fieldnames or ()}
+        if lacking := [name for name in NEEDED if name not in named]:
+            raise NotALog(f"there is no column {', '.join(lacking)}")
+        yield from map(numbers, rows)
+    except csv.Error as why:
+        raise NotALog(f"no CSV: {why}") from None
+
+
 def instructions(lines):
-    rows = csv.DictReader(lines)
-    named = {name.strip().removeprefix("rvfi_") for name in rows.fieldnames or ()}
-    if lacking := [name for name in NEEDED if name not in named]:
-        raise NotALog(f"there is no column {', '.join(lacking)}")
-    for given in rows:
-        row = numbers(given)
+    for row in rows_of(lines):
         if lacking := [name for name in NEEDED if name not in row]:
             raise NotALog(f"there is no value of {', '.join(lacking)}")
         if row.get("valid", 1) and (not row.get("trap", 0) or row["insn"] == ECALL):
