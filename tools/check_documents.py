@@ -2,7 +2,8 @@
 """Says which names in the documents are nowhere in the repository: run it at the top of the repository, `tools/check_documents.py`.
 
 Of README.md, CONTRIBUTING.md, CHANGELOG.md, docs/*.md, bench/*.md, crates/TESTS.md, the README.md of each crate, of each folder of experiments/,
-of examples/ and its folders, and those of tools/editors/ and crates/worked_rows/data/ it looks at all that stands between backquotes, and at the commands
+of examples/ and its folders, and those of tools/editors/, tools/adapters/, tools/bare_metal/ and crates/worked_rows/data/ it looks at all that stands between
+backquotes, and at the commands
 of their indented blocks and of the comments in examples/:
 - a path has to be there, from the top, from crates/, or from the folder that the same line names;
 - a name of code (with a capital, or with `_` or `::`) has to be in the code, its contracts or its definitions;
@@ -40,7 +41,7 @@ names = {pathlib.PurePath(name).name for name in there} | {pathlib.PurePath(name
 code = "\n".join(pathlib.Path(name).read_text() for name in tracked
                  if name.endswith((".rt", ".antt", ".py", ".txt", ".cases", ".s")) or name.startswith(("bench/", "experiments/", ".ci/")) and not name.endswith((".svg", ".csv", ".md")))
 words = set(re.findall(r"[A-Za-z_]\w*(?:-\w+)*'?", code))
-documents = ["README.md", "CONTRIBUTING.md", "CHANGELOG.md", "crates/TESTS.md", "tools/editors/README.md",
+documents = ["README.md", "CONTRIBUTING.md", "CHANGELOG.md", "crates/TESTS.md", "tools/editors/README.md", "tools/adapters/README.md", "tools/bare_metal/README.md",
              "crates/worked_rows/data/README.md"] + [n for n in tracked if re.fullmatch(r"examples/(?:[\w-]+/)?README\.md", n)] + [
     n for n in tracked if re.fullmatch(r"(?:docs|bench)/\w+\.md|(?:crates|experiments)/[\w-]+/README\.md", n)]
 examples = sorted(n for n in tracked if re.fullmatch(r"examples/[\w-]+\.s", n))

@@ -58,6 +58,8 @@ PARTS = [functools.partial(shown.states_are_those_of_the_reference, example, wor
     exported.listings_are_read_by_the_gnu_assembler,
     exported.expectations_are_compared,
     from_python.calls_are_refused,
+    from_python.options_go_where_they_belong,
+    from_python.states_have_parts,
     charts.each_mode_has_its_own_options,
     settled.made_texts_have_the_outcomes_of_the_reference,
     settled.cases_have_their_outcomes,

@@ -8,7 +8,6 @@
 .phase
 .task 1, read, 0
 .reads x
-.writes seen
 .phase
 .task 0, put, 9
 .writes x
@@ -18,14 +17,11 @@
 .task 1, work, 2
 .writes own
 .phase
-.task 1, read, 4
+.task 1, look, 0
 .reads x
 .writes seen
 read: la t0, x
  lw t1, 0(t0)
- la t0, seen
- add t0, t0, a0
- sw t1, 0(t0)
  li a7, 0
  ecall
 put: la t0, x
@@ -33,8 +29,14 @@ put: la t0, x
  li a7, 0
  ecall
 work: la t0, own
- lw t1, 16(t0)
+ lw t1, 60(t0)        # 124 bytes behind x: in no cache with two sets or more does it share the set of x
  add t1, t1, a0
- sw t1, 16(t0)
+ sw t1, 60(t0)
+ li a7, 0
+ ecall
+look: la t0, x
+ lw t1, 0(t0)
+ la t0, seen
+ sw t1, 0(t0)
  li a7, 0
  ecall

@@ -124,9 +124,10 @@ def words_with_like_names_have_scopes_of_their_own():
     check("of signs that names of VCD have", all(re.fullmatch(r"[A-Za-z0-9_$]+", scope) for scope in scopes), scopes)
 
 
+ADAPTED = "tools/adapters/logs/two-cores.s"
 # tools that read standard input, with words that they take
-READERS = (["tools/to_gas"], ["tools/vcd"], ["tools/perfetto"], ["tools/reference.py"], ["examples/loader/load.py"],
-           ["examples/another-simulator/simulate.py"], ["examples/another-simulator/directory.py"])
+READERS = (["tools/to_gas"], ["tools/to_gas", "--runtime"], ["tools/vcd"], ["tools/perfetto"], ["tools/reference.py"], ["examples/loader/load.py"],
+           *([f"tools/adapters/{name}.py", ADAPTED] for name in ("spike", "gem5", "rvfi")), ["examples/another-simulator/simulate.py"], ["examples/another-simulator/directory.py"])
 # and tools that read files
 FILE_READERS = (["tools/expect", "/nonexistent", "/nonexistent"], ["tools/expect", "examples", "examples"], ["tools/from_c.py", "/nonexistent.c", "/nonexistent.s"],
                 ["experiments/plot", "/nonexistent"], ["experiments/sweep", "/nonexistent"], ["tools/reference.py", "cases", "/nonexistent", "x"])
