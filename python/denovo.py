@@ -41,6 +41,8 @@ if TYPE_CHECKING:
         tick_core: int
         tick_bank: int
         tick_mail: int
+        latency: int
+        net: str
 
     class ModeOptions(RunOptions, total=False):
         mode: str
@@ -96,7 +98,8 @@ class WrongOption(ValueError):
 # what each option may be: numbers of a range, or one of these words; any text where there is None
 _SIZES = {"fuel": range(1, 32769), "banks": range(1, 17), "sets": range(1, 257), "ways": range(1, 17)}
 _TICKS = {name: range(1, 1000001) for name in ("tick_core", "tick_bank", "tick_mail")}
-_RUN = {"seed": range(1 << 32), "order": ("seed", "time"), "workers": range(1, 17), **_SIZES, **_TICKS}
+_NETWORK = {"latency": range(1000001), "net": ("uniform", "mesh")}
+_RUN = {"seed": range(1 << 32), "order": ("seed", "time"), "workers": range(1, 17), **_SIZES, **_TICKS, **_NETWORK}
 _DENOVO = {**_RUN, "mode": ("run", "work", "check", "list", "flat", "trace", "replay", "time", "prove"), "addresses": ("on", "off"), "size": range(1, 129)}
 _SHOWN = {"first": range(1 << 32), "rows": range(1, 1 << 32), **_TICKS}
 _CHART = {**_SHOWN, "columns": ("all", "used"), "plain": ("on", "off", "lines"), "words": None, "actors": None, "fit": ("rows", "slide")}
