@@ -61,8 +61,11 @@ reason_by_lines P lines = if list_any is_open_line lines then reason_of P 32768 
 unfoldable pub reads_register : ℕ → List ℕ
 reads_register register = codes "  It reads x" ++ decimal register ++ codes ", whose value comes from "
 
+unfoldable pub read_under : List ℕ
+read_under = codes ", read under "
+
 unfoldable pub guarded_text : Located → ℕ → List ℕ
-guarded_text l lock = codes ", read under " ++ lock_text l.program.locks lock
+guarded_text l lock = read_under ++ lock_text l.program.locks lock
 
 abbrev pub under_if : Located → Option ℕ → List ℕ
 under_if l (Some lock) = guarded_text l lock

@@ -4,7 +4,7 @@ ghost use Rattle.std.specs.List.{list_any};
 ghost use Rattle.sentences.specs.Endings.{place_behind, place_if};
 ghost use Rattle.sentences.specs.Quotes.{AreSpans};
 ghost use Rattle.explained_answer.specs.Lines.{lines_in};
-ghost use Rattle.explained_answer.specs.Reasons.{is_open_line, is_control, is_held_end, is_stuck_so, is_open_so, reason_for, reason_by_lines, reads_register, guarded_text, under_if, ends_sentence, the_load, dependence_text, depends_text, a_task, task_that_line, task_line_text, holding_text, while_holding, takes_lock, taken_at_place, place_or_end, acquire_text, takes_text, open_phase, why_text, sweep_advice, said_of_reason};
+ghost use Rattle.explained_answer.specs.Reasons.{is_open_line, is_control, is_held_end, is_stuck_so, is_open_so, reason_for, reason_by_lines, reads_register, read_under, guarded_text, under_if, ends_sentence, the_load, dependence_text, depends_text, a_task, task_that_line, task_line_text, holding_text, while_holding, takes_lock, taken_at_place, place_or_end, acquire_text, takes_text, open_phase, why_text, sweep_advice, said_of_reason};
 
 use crate::AnswerLine;
 use crate::parsing::ReadLine;
@@ -128,11 +128,18 @@ fn push_reads_register(out: &mut Vec<u8>, register: u32) -> Result<(), Memory>
     push(out, b", whose value comes from ")
 }
 
+#[tactic(auto, unfolding(crate::specs::Reasons::read_under))]
+fn push_read_under(out: &mut Vec<u8>) -> Result<(), Memory>
+    ensures { OnOk result (out.new.items ≡ out.old.items ++ read_under) }
+{
+    push(out, b", read under ")
+}
+
 #[tactic(auto, unfolding(crate::specs::Reasons::guarded_text))]
 fn push_guarded_text(out: &mut Vec<u8>, located: &Located, lock: u32) -> Result<(), Memory>
     ensures { OnOk result (out.new.items ≡ out.old.items ++ guarded_text located.now lock) }
 {
-    push(out, b", read under ")?;
+    push_read_under(out)?;
     push_lock(out, located.program.locks.as_slice(), lock as usize)
 }
 
